@@ -1,0 +1,19 @@
+//! The numbers, codes and names that every layer shares: error codes (WebGL 1.0 section 5.14.3), kinds of
+//! object, the words of enumerated arguments (OpenGL ES 2.0 section 2.9), and two short lists that need no
+//! memory. Each `from_u32` answers exactly the words of its table; `Name` and `Words` are seen as lists.
+#![tactic(auto)]
+
+mod errors;
+mod kinds;
+mod buffer_words;
+mod short_lists;
+
+pub use buffer_words::{
+    ARRAY_BUFFER, BufferTarget, DYNAMIC_DRAW, ELEMENT_ARRAY_BUFFER, STATIC_DRAW, STREAM_DRAW, Usage,
+};
+pub use errors::{
+    GlError, INVALID_ENUM, INVALID_FRAMEBUFFER_OPERATION, INVALID_OPERATION, INVALID_VALUE, Memory, NO_ERROR,
+    OUT_OF_MEMORY,
+};
+pub use kinds::{Handle, Kind, Stage};
+pub use short_lists::{NAME_BYTES, Name, WORDS, Words};
