@@ -2,3 +2,4 @@ pub mod Operations
 pub mod Records
 pub mod Replies
 pub mod Reading
+pub mod Parts

@@ -1,5 +1,5 @@
 -- What the reader of a session answers, as facts about the bytes that were left before and are left after.
-use Rattle.std.specs.Prelude.{◌≡◌, ℕ, ◌+◌, ◌<◌, ◌≤◌, ◌^◌, ◌⊎◌, Bool, true, false, List, [], ◌∷◌, ◌++◌, length, take, drop, Result, Ok, Err, codes}
+use Rattle.std.specs.Prelude.{◌≡◌, ℕ, ◌+◌, ◌<◌, ◌≤◌, ◌^◌, ◌⊎◌, true, false, List, [], ◌∷◌, ◌++◌, length, Result, Ok, Err, IfErr}
 use Rattle.gl_numbers.specs.Bytes.{le32}
 use Rattle.wire_io.specs.Faults.{Rose}
 use Rattle.call_records.specs.declared.operations.TheConstants.{BODY_MAX}
@@ -88,7 +88,7 @@ Answers at old new (Err e) = Refuses at old new e
 -- the number of faults hasn't fallen, and ReadFault is answered only where it rose
 pub record ReadCause {T : Type 0} (before now : ℕ) (result : Result T ReadEnd) : Type 0 where
   pub later : before ≤ now
-  pub failed : result ≡ Err ReadFault → Rose before now
+  pub failed : IfErr result (λ end. end ≡ ReadFault → Rose before now)
 
 -- the record's header ends within the most bytes of a session, unless that is what was refused
 abbrev pub HasRoom : {T : Type 0} → ℕ → Result T ReadEnd → Type 0
