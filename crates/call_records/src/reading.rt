@@ -82,6 +82,7 @@ fn fill<S: Source>(input: &mut S, at: u64, piece: &mut [u8]) -> Result<(), ReadE
 fn read_words<S: Source>(input: &mut S, at: u64) -> Result<(u32, u32), ReadEnd>
     requires { at ≤ 2 ^ 63 }
     ensures taken { IfOk result (λ words. S.left input.old ≡ prepend_known (le32 words.0 ++ le32 words.1) (S.left input.new)) }
+    ensures range { IfOk result (λ words. (words.0 < 2 ^ 32) × (words.1 < 2 ^ 32)) }
     ensures short { IfErr result (EndsShort at 8 (S.left input.old) (S.left input.new)) }
     ensures cause { ReadCause (S.faults input.old) (S.faults input.new) result }
 {
@@ -161,6 +162,7 @@ fn see_end<S: Source>(input: &mut S, at: u64) -> Result<(), ReadEnd>
 
 /// Reads a session's header. ReadFault comes only where the source's number of faults rose; Truncated, Magic
 /// and Version come exactly by the bytes.
+#[tactic(auto, using(crate::proofs::Refusals::start_good))]
 pub fn read_start<S: Source>(input: &mut S) -> Result<(), ReadEnd>
     ensures taken { OnOk result (S.left input.old ≡ prepend_known session_start (S.left input.new)) }
     ensures answers { WhereTold (λ old new. StartAnswers old new result) (S.left input.old) (S.left input.new) }
@@ -183,6 +185,7 @@ pub fn read_start<S: Source>(input: &mut S) -> Result<(), ReadEnd>
 /// Reads the next record, of which `at` bytes of the session stand before. A call's tail borrows `buf`. After
 /// the closing record it sees that the input ends there. ReadFault comes only where the source's number of
 /// faults rose; every other refusal comes exactly by the bytes and `at`.
+#[tactic(auto, using(crate::proofs::Lengths::lengths))]
 pub fn read_call<'b, S: Source>(input: &mut S, at: u64, buf: &'b mut RecordBuf) -> Result<Step<'b>, ReadEnd>
     requires { at ≤ 2 ^ 63 }
     ensures taken { IfOk result (λ step. S.left input.old ≡ prepend_known (step_spelling step) (S.left input.new)) }
