@@ -26,7 +26,7 @@ two_words a b rest p q = record {
   second = b;
   first_fits = p;
   second_fits = q;
-  are = append_assoc (le32 a) (le32 b) rest
+  are = append_assoc (le32 a) (le32 b) rest;
 }
 
 -- the session's header is two words
@@ -101,7 +101,7 @@ body_part len operation part h short = record {
   known = h.known;
   within = h.within;
   shape = h.shape;
-  short = short
+  short = short;
 }
 
 -- a call's body that was cut short
@@ -115,9 +115,9 @@ body_refused at after len operation old mid new (Truncated n) place h s =
 body_refused at after len operation old mid new ReadFault place h s =
     let header : List ℕ = le32 (number_of operation) ++ le32 len in
     told (λ old new. Refuses at old new ReadFault) old new _ (taken_twice old mid new header s.got h.0 s.taken) (λ rest. record {
-    got = header ++ s.got;
-    cut = inl (inr (body_part len operation s.got h.1 s.short));
-    are = refl
+      got = header ++ s.got;
+      cut = inl (inr (body_part len operation s.got h.1 s.short));
+      are = refl;
     })
 body_refused at after len operation old mid new (Magic n) place h s = absurd s
 body_refused at after len operation old mid new (Version n) place h s = absurd s

@@ -11,8 +11,11 @@ mod replies;
 
 pub use calls::{Call, Fill, New};
 pub use operations::{
-    BIND_BUFFER, BODY_MAX, BUFFER_DATA, CLOSE, CREATE_BUFFER, GET_ERROR, HEADER_BYTES, Layout, Operation,
+    BIND_BUFFER, BODY_MAX, BUFFER_DATA, CLOSE, CREATE_BUFFER, GET_ERROR, HEADER_BYTES, Layout,
+    Operation,
 };
-pub use reading::{INPUT_MAX, ReadEnd, SESSION_MAGIC, SESSION_VERSION, Step, read_call, read_start};
+pub use reading::{
+    INPUT_MAX, ReadEnd, SESSION_MAGIC, SESSION_VERSION, Step, read_call, read_start,
+};
 pub use record_buf::RecordBuf;
 pub use replies::{Reply, Value, write_reply};

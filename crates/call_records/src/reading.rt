@@ -7,12 +7,11 @@ ghost use Rattle.call_records.specs.Records.{session_start, Fits, operation_of, 
 ghost use Rattle.call_records.specs.Reading.{StartAnswers, Answers, Refuses, ReadCause, step_spelling, HasFits, IsStartEnd, IsRecordEnd, HasRoom};
 ghost use Rattle.call_records.specs.Parts.{EndsShort, Judges, TakesHead, EndsClosed};
 
-use gl_numbers::u32_at;
-use wire_io::{Source, read_full};
-
 use crate::calls::{Call, call_of};
 use crate::operations::{BODY_MAX, CLOSE, HEADER_BYTES, Operation};
 use crate::record_buf::RecordBuf;
+use gl_numbers::u32_at;
+use wire_io::{Source, read_full};
 
 /// The first word of a session: the text `WGLR`.
 pub const SESSION_MAGIC: u32 = 0x524C_4757;
@@ -83,7 +82,7 @@ fn read_words<S: Source>(input: &mut S, at: u64) -> Result<(u32, u32), ReadEnd>
     requires { at ≤ 2 ^ 63 }
     ensures taken { IfOk result (λ words. S.left input.old ≡ prepend_known (le32 words.0 ++ le32 words.1) (S.left input.new)) }
     ensures range { IfOk result (λ words. (words.0 < 2 ^ 32) × (words.1 < 2 ^ 32)) }
-    ensures short { IfErr result (EndsShort at 8 (S.left input.old) (S.left input.new)) }
+    ensures short { IfErr result (EndsShort at HEADER_BYTES (S.left input.old) (S.left input.new)) }
     ensures cause { ReadCause (S.faults input.old) (S.faults input.new) result }
 {
     let mut words = [0u8; 8];
@@ -113,7 +112,7 @@ fn judge(number: u32, len: usize, at: u64) -> Result<Head, ReadEnd>
 
 /// Reads and judges a record's header.
 fn read_head<S: Source>(input: &mut S, at: u64) -> Result<Head, ReadEnd>
-    requires { at + 8 ≤ 2 ^ 62 }
+    requires { at + HEADER_BYTES ≤ INPUT_MAX }
     ensures taken { IfOk result (TakesHead (S.left input.old) (S.left input.new)) }
     ensures refused { IfErr result (λ end. WhereTold (λ old new. Refuses at old new end) (S.left input.old) (S.left input.new)) }
     ensures cause { ReadCause (S.faults input.old) (S.faults input.new) result }
@@ -127,7 +126,13 @@ fn read_head<S: Source>(input: &mut S, at: u64) -> Result<Head, ReadEnd>
 }
 
 /// Reads a call's body into the buffer.
-fn read_body<'b, S: Source>(input: &mut S, at: u64, operation: Operation, len: usize, buf: &'b mut RecordBuf) -> Result<Call<'b>, ReadEnd>
+fn read_body<'b, S: Source>(
+    input: &mut S,
+    at: u64,
+    operation: Operation,
+    len: usize,
+    buf: &'b mut RecordBuf,
+) -> Result<Call<'b>, ReadEnd>
     requires place { at ≤ 2 ^ 63 }
     requires within { len ≤ BODY_MAX }
     requires shape { allows (layout_of operation) len ≡ true }
@@ -186,13 +191,17 @@ pub fn read_start<S: Source>(input: &mut S) -> Result<(), ReadEnd>
 /// the closing record it sees that the input ends there. ReadFault comes only where the source's number of
 /// faults rose; every other refusal comes exactly by the bytes and `at`.
 #[tactic(auto, using(crate::proofs::Lengths::lengths))]
-pub fn read_call<'b, S: Source>(input: &mut S, at: u64, buf: &'b mut RecordBuf) -> Result<Step<'b>, ReadEnd>
+pub fn read_call<'b, S: Source>(
+    input: &mut S,
+    at: u64,
+    buf: &'b mut RecordBuf,
+) -> Result<Step<'b>, ReadEnd>
     requires { at ≤ 2 ^ 63 }
     ensures taken { IfOk result (λ step. S.left input.old ≡ prepend_known (step_spelling step) (S.left input.new)) }
     ensures answers { WhereTold (λ old new. Answers at old new result) (S.left input.old) (S.left input.new) }
     ensures cause { ReadCause (S.faults input.old) (S.faults input.new) result }
     ensures room { HasRoom at result }
-    ensures size { IfOk result (λ step. length (step_spelling step) ≤ 16777288) }
+    ensures size { IfOk result (λ step. length (step_spelling step) ≤ HEADER_BYTES + BODY_MAX) }
     ensures fits { IfOk result HasFits }
     ensures never { IfErr result IsRecordEnd }
 {

@@ -1,12 +1,10 @@
 ghost use Rattle.std.specs.Prelude.{◌≡◌, ℕ, List, length, IfOk};
 ghost use Rattle.call_records.specs.declared.operations.TheConstants.{BODY_MAX};
 
+use crate::operations::BODY_MAX;
+use gl_numbers::Memory;
 use std::alloc::Global;
 use std::marker::Model;
-
-use gl_numbers::Memory;
-
-use crate::operations::BODY_MAX;
 
 /// Room for the longest body of a record, seen as its bytes. A call that was read borrows its tail from here.
 #[derive(Debug, Drop)]

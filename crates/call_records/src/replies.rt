@@ -60,7 +60,13 @@ fn fill_words(words: &[u32], into: &mut [u8; 64]) -> usize
 
 /// Writes three words, and then the bytes.
 #[tactic(auto, using(crate::proofs::Sending::three_then, crate::proofs::Sending::three_stop))]
-fn write_after_words<O: Sink>(first: u32, second: u32, third: u32, bytes: &[u8], out: &mut O) -> Result<(), Failed>
+fn write_after_words<O: Sink>(
+    first: u32,
+    second: u32,
+    third: u32,
+    bytes: &[u8],
+    out: &mut O,
+) -> Result<(), Failed>
     ensures bytes { Sends (O.held out.old) (O.held out.new) result (le32 first ++ (le32 second ++ (le32 third ++ bytes.now))) }
     ensures cause { HasCause (O.faults out.old) (O.faults out.new) result }
 {
@@ -72,7 +78,13 @@ fn write_after_words<O: Sink>(first: u32, second: u32, third: u32, bytes: &[u8],
 
 /// Writes an active attribute or uniform: three words, two words, and the name.
 #[tactic(auto, using(crate::proofs::Sending::two_then, crate::proofs::Sending::two_stop))]
-fn write_active<O: Sink>(raised: u32, size: u32, kind: u32, name: &[u8], out: &mut O) -> Result<(), Failed>
+fn write_active<O: Sink>(
+    raised: u32,
+    size: u32,
+    kind: u32,
+    name: &[u8],
+    out: &mut O,
+) -> Result<(), Failed>
     requires { length name.now ≤ 256 }
     ensures bytes { Sends (O.held out.old) (O.held out.new) result (le32 raised ++ (le32 TAG_ACTIVE ++ (le32 size ++ (le32 kind ++ (le32 (length name.now) ++ name.now))))) }
     ensures cause { HasCause (O.faults out.old) (O.faults out.new) result }
@@ -104,6 +116,12 @@ pub fn write_reply<O: Sink>(reply: &Reply, out: &mut O) -> Result<(), Failed>
             let bytes = name.as_slice();
             write_after_words(raised, TAG_TEXT, bytes.len() as u32, bytes, out)
         }
-        Value::Active { size, kind, name } => write_active(raised, size, kind, name.as_slice(), out),
+        Value::Active { size, kind, name } => write_active(
+            raised,
+            size,
+            kind,
+            name.as_slice(),
+            out,
+        ),
     }
 }

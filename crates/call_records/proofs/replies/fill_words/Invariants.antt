@@ -8,5 +8,5 @@ abbrev pub invariant-loop-word : goal.invariant-loop-word
 invariant-loop-word l = record {
   count : l.filled ≡ 4 * l.word-index;
   whole : length l.into ≡ 64;
-  bytes : take l.filled l.into ≡ flat_map le32 (take l.word-index l.words)
+  bytes : take l.filled l.into ≡ flat_map le32 (take l.word-index l.words);
 }
