@@ -82,7 +82,7 @@ spelling-one a b x y p q e =
     let from_b = again b q.words in
     record {
       call = sym from_a ∙ ap (λ o. call_for o (body_of a)) operation ∙ ap (call_for (operation_of b)) body ∙ from_b;
-      rest = rest
+      rest = rest;
     }
 
 -- no call has the closing record's number
@@ -142,7 +142,7 @@ front [] old fits e = record {
   within = omega arith;
   shape = refl;
   whole = omega arith;
-  is = rw append-nil e
+  is = rw append-nil e;
 }
 front (call ∷ todo) old fits e =
     let here : Fits call = All-head Fits call todo fits in
@@ -156,7 +156,7 @@ front (call ∷ todo) old fits e =
       within = here.body;
       shape = shape call;
       whole = omega (arith, length-append (body_of call) rest);
-      is = e ∙ append_assoc (spelling call) (flat_map spelling todo) closing_record ∙ parted call rest
+      is = e ∙ append_assoc (spelling call) (flat_map spelling todo) closing_record ∙ parted call rest;
     }
 
 -- the header that was taken is the one that stands there
@@ -236,7 +236,7 @@ next_rest (first ∷ rest) at old new call fits here e a =
       parts = refl;
       same = one.call;
       fits = All-tail Fits first rest fits;
-      left = sym one.rest
+      left = sym one.rest;
     }
 
 -- the closing record is read only where no call is left
@@ -263,7 +263,7 @@ pub started : (calls : List Call) (old new : List ℕ) (result : Result (Unit {0
     → StartRest calls new result
 started calls old new (Ok x) e a = record {
   answered = inl refl;
-  left = λ _. append_cancel_left session_start new _ (sym a ∙ e)
+  left = λ _. append_cancel_left session_start new _ (sym a ∙ e);
 }
 started calls old new (Err (Truncated n)) e a =
     absurd (omega (arith, a.0, ap length e, length-append session_start (flat_map spelling calls ++ closing_record), ap length start_words, length-append (le32 SESSION_MAGIC) (le32 SESSION_VERSION), length-le32 SESSION_MAGIC, length-le32 SESSION_VERSION))

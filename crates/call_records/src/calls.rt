@@ -13,7 +13,7 @@ pub enum New {
 }
 
 /// What bufferData fills a buffer with (WebGL 1.0 section 5.14.5).
-#[derive(Clone, Copy, Debug)]
+#[derive(Clone, Copy, Debug, PartialEq, Eq)]
 pub enum Fill<'a> {
     /// These bytes, which give the buffer its size.
     Bytes(&'a [u8]),
@@ -21,7 +21,7 @@ pub enum Fill<'a> {
 
 /// A recorded call (WebGL 1.0 section 5.14) with its arguments as words, in the order of the record's fields.
 /// A tail of bytes borrows the record buffer.
-#[derive(Clone, Copy, Debug)]
+#[derive(Clone, Copy, Debug, PartialEq, Eq)]
 pub enum Call<'a> {
     /// createBuffer
     Create(New),

@@ -8,6 +8,8 @@ mod operations;
 mod reading;
 mod record_buf;
 mod replies;
+#[cfg(test)]
+mod tests;
 
 pub use calls::{Call, Fill, New};
 pub use operations::{

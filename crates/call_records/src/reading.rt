@@ -21,7 +21,7 @@ pub const SESSION_VERSION: u32 = 1;
 pub const INPUT_MAX: u64 = 0x4000_0000_0000_0000;
 
 /// What the next record of a session is.
-#[derive(Clone, Copy, Debug)]
+#[derive(Clone, Copy, Debug, PartialEq, Eq)]
 pub enum Step<'a> {
     /// A call.
     Call(Call<'a>),
