@@ -1,5 +1,5 @@
 -- Each spelling is of one call, and no refusal comes before the rest of a session.
-use Rattle.std.proofs.Common.{◌≡◌, ℕ, ◌+◌, ◌<◌, ◌≤◌, ◌^◌, ◌⊎◌, List, [], ◌∷◌, ◌++◌, length, take, drop, Option, Some, None, Result, Ok, Err, IsOk, All, true, false, inl, inr, refl, sym, ap, ◌∙◌, subst, arith, append_assoc, length-append, append-nil, lit<}
+use Rattle.std.proofs.Common.{◌≡◌, ℕ, ◌+◌, ◌<◌, ◌≤◌, ◌^◌, ◌⊎◌, List, [], ◌∷◌, ◌++◌, length, take, drop, Some, Result, Ok, Err, IsOk, All, true, inl, inr, refl, sym, ap, ◌∙◌, arith, append_assoc, length-append, append-nil, lit<}
 use Rattle.std.proofs.Math.Seq.{take-append_seam, drop-append_seam}
 use Rattle.std.proofs.lemmas.Nat.{from_le_bytes-to_le_bytes_4}
 use Rattle.std.proofs.lemmas.Bool.{le-leb}
@@ -9,7 +9,7 @@ use Rattle.std.specs.Int.{from_le_bytes, w32}
 use Rattle.std.specs.List.{flat_map}
 use Rattle.gl_numbers.specs.Bytes.{le32}
 use Rattle.gl_numbers.proofs.Bytes.{length-le32, Same, le32-one}
-use Rattle.call_records.specs.declared.operations.TheConstants.{CLOSE, BODY_MAX, HEADER_BYTES}
+use Rattle.call_records.specs.declared.operations.TheConstants.{CLOSE, BODY_MAX}
 use Rattle.call_records.specs.declared.operations.Operation.{Operation}
 use Rattle.call_records.specs.declared.operations.Operation.TheVariants as Op
 use Rattle.call_records.specs.declared.calls.New.TheVariants.{Buffer}
@@ -20,7 +20,6 @@ use Rattle.call_records.specs.Operations.{number_of, operation_numbered, is_know
 use Rattle.call_records.specs.Records.{operation_of, op_of, body_of, spelling, HasWords, Fits, plain, session_start, closing_record, session}
 use Rattle.call_records.specs.declared.reading.TheConstants.{INPUT_MAX, SESSION_MAGIC, SESSION_VERSION}
 use Rattle.call_records.specs.declared.reading.Step.{Step}
-use Rattle.call_records.specs.declared.reading.Step.TheVariants as Step
 use Rattle.call_records.specs.declared.reading.ReadEnd.{ReadEnd}
 use Rattle.call_records.specs.declared.reading.ReadEnd.TheVariants.{Truncated, Magic, Version, UnknownOp, BodyLong, BodyShape, AfterEnd, InputLong, ReadFault}
 use Rattle.call_records.specs.Reading.{TwoWords, IsCutShort, StartAnswers, Answers}

@@ -1,12 +1,11 @@
 -- From the parts of the reader to its answers.
-use Rattle.std.proofs.Common.{◌≡◌, ℕ, ◌+◌, ◌<◌, ◌≤◌, ◌^◌, List, [], ◌∷◌, ◌++◌, length, Option, Result, Ok, Err, IfOk, IfErr, inl, inr, refl, sym, ap, ◌∙◌, subst, arith, append_assoc, length-append, lit<}
+use Rattle.std.proofs.Common.{◌≡◌, ℕ, ◌+◌, ◌<◌, ◌^◌, List, ◌++◌, length, Option, Result, Ok, Err, IfOk, IfErr, inl, inr, refl, sym, arith, append_assoc, length-append, lit<}
 use Rattle.std.specs.Io.KnownBytes.{prepend_known}
 use Rattle.gl_numbers.specs.Bytes.{le32}
 use Rattle.gl_numbers.proofs.Bytes.{length-le32}
 use Rattle.wire_io.specs.Sources.{WhereTold}
 use Rattle.wire_io.proofs.Known.{taken_twice}
 use Rattle.wire_io.proofs.Told.{told, told_end}
-use Rattle.call_records.specs.declared.operations.TheConstants.{CLOSE, BODY_MAX}
 use Rattle.call_records.specs.declared.operations.Operation.{Operation}
 use Rattle.call_records.specs.declared.operations.Operation.TheVariants.{CreateBuffer, BindBuffer, BufferData, GetError}
 use Rattle.call_records.specs.declared.reading.TheConstants.{SESSION_MAGIC, SESSION_VERSION}
@@ -16,7 +15,7 @@ use Rattle.call_records.specs.declared.reading.ReadEnd.{ReadEnd}
 use Rattle.call_records.specs.declared.reading.ReadEnd.TheVariants.{Truncated, Magic, Version, UnknownOp, BodyLong, BodyShape, AfterEnd, InputLong, ReadFault}
 use Rattle.call_records.specs.Operations.{number_of}
 use Rattle.call_records.specs.Records.{session_start, closing_record}
-use Rattle.call_records.specs.Reading.{TwoWords, IsPartOfBody, IsCutShort, StartAnswers, Refuses}
+use Rattle.call_records.specs.Reading.{TwoWords, IsPartOfBody, StartAnswers, Refuses}
 use Rattle.call_records.specs.Parts.{EndsShort, IsHeader, Judges, TakesHead}
 
 -- two words before a rest

@@ -4,7 +4,6 @@ use Rattle.gl_numbers.specs.Bytes.{le32}
 use Rattle.wire_io.specs.Faults.{Rose}
 use Rattle.call_records.specs.declared.operations.TheConstants.{HEADER_BYTES, BODY_MAX}
 use Rattle.call_records.specs.declared.reading.TheConstants.{SESSION_MAGIC, SESSION_VERSION, INPUT_MAX}
-use Rattle.call_records.specs.declared.calls.Call.TheVariants as Calls
 use Rattle.call_records.specs.declared.reading.Step as Steps
 use Rattle.call_records.specs.declared.reading.Step.TheVariants.{Call, End}
 use Rattle.call_records.specs.declared.reading.ReadEnd.{ReadEnd}

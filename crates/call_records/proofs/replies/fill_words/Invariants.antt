@@ -1,5 +1,5 @@
 -- The bytes filled so far are those of the words so far.
-use Rattle.std.proofs.Common.{◌≡◌, ℕ, ◌*◌, length, take}
+use Rattle.std.proofs.Common.{◌≡◌, ◌*◌, length, take}
 use Rattle.std.specs.List.{flat_map}
 use Rattle.gl_numbers.specs.Bytes.{le32}
 use Rattle.call_records.proofs.replies.fill_words.Given as goal
