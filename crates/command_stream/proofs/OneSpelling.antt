@@ -93,7 +93,7 @@ command_spelling-one a b x y fits_a fits_b e =
     parts-one (op_of a) (op_of b) (body_of a) (body_of b) x y (op-fits a) (op-fits b) short_a short_b e in
     record {
       command = sym (again a fits_a.words) ∙ ap (command_at (op_of a)) same.same_body ∙ ap (λ n. command_at n (body_of b)) same.same_op ∙ again b fits_b.words;
-      rest = same.rest
+      rest = same.rest;
     }
 
 -- no spelling is empty

@@ -14,3 +14,6 @@ pub use operation::{
     BIND_BUFFER, BODY_MAX, BUFFER_BYTES, BUFFER_SIZE, MAKE_BUFFER, Operation, STREAM_VERSION,
 };
 pub use write::{write_command, write_start};
+
+#[cfg(test)]
+mod tests;
