@@ -4,6 +4,8 @@
 //! faults rose.
 #![tactic(auto)]
 
+mod buffer;
+mod copies;
 mod memory;
 mod sink;
 mod source;
