@@ -19,3 +19,6 @@ pub use sink::{Sink, write_all};
 pub use source::{Source, read_full};
 pub use standard::{StdSink, StdSource};
 pub use status::{Failed, Status};
+
+#[cfg(test)]
+mod tests;
