@@ -1,5 +1,5 @@
 -- A buffer between the program and a reader or a writer: no byte is lost, sent twice or moved past another.
-use Rattle.std.specs.Prelude.{◌≡◌, ℕ, ◌<◌, ◌≤◌, List, [], ◌++◌, length, take, Option, Some, None, ⊤, Result, Ok, Err}
+use Rattle.std.specs.Prelude.{Bool, ◌≡◌, ℕ, ◌<◌, ◌≤◌, List, [], ◌++◌, min, length, take, Option, Some, None, ⊤, Result, Ok, Err}
 use Rattle.std.specs.Io.KnownBytes.{IsAtEnd}
 
 -- the bytes that wait, the room behind them, and the number of faults
@@ -31,3 +31,20 @@ abbrev pub WritesThrough : {E : Type 0} → Option (List ℕ) → Option (List �
 WritesThrough old new waited waits (Ok n) piece =
     (n ≤ length piece) × Passes old new waited (take n piece) waits × (0 < length piece → 0 < n)
 WritesThrough old new waited waits (Err e) piece = Passes old new waited [] waits
+
+-- where bytes wait, they are given, as many as fit, and nothing is read
+abbrev pub GivesWaiting : {E : Type 0} → BufferState → BufferState → Result ℕ E → List ℕ → Type 0
+GivesWaiting old new result piece =
+    0 < length old.waiting → (result ≡ Ok (min (length old.waiting) (length piece)))
+    × (old.waiting ≡ take (length old.waiting) piece ++ new.waiting)
+
+-- where there is room, a piece shorter than the whole room waits, as much of it as fits, and nothing is written
+abbrev pub KeepsShort : {E : Type 0} → BufferState → BufferState → Result ℕ E → List ℕ → Type 0
+KeepsShort old new result piece =
+    0 < old.room → length piece < 65536 → (result ≡ Ok (min (length piece) old.room))
+    × (new.waiting ≡ old.waiting ++ take old.room piece)
+
+-- a file's sink: whether its file is open, and the buffer before it
+pub record LazyState : Type 0 where
+  pub is_open : Bool
+  pub behind : BufferState

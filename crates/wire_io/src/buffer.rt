@@ -1,7 +1,7 @@
 ghost use Rattle.std.specs.Prelude.{◌≡◌, ◌+◌, ◌-◌, ◌^◌, ◌<◌, ◌≤◌, ◌↔◌, [], ◌++◌, min, length, take, drop, OnOk, OnErr};
 ghost use Rattle.std.specs.Io.KnownBytes.{IsAtEnd};
-ghost use Rattle.wire_io.specs.Faults.{HasCause};
-ghost use Rattle.wire_io.specs.Buffers.{BufferState, Gives, Passes, ReadsThrough, WritesThrough};
+ghost use Rattle.wire_io.specs.Faults.{CountsErrors, HasCause};
+ghost use Rattle.wire_io.specs.Buffers.{BufferState, Gives, GivesWaiting, KeepsShort, Passes, ReadsThrough, WritesThrough};
 
 use crate::copies::{copy_front, copy_rest};
 use crate::status::Failed;
@@ -120,6 +120,7 @@ impl Buffer {
         ensures end { OnOk result (self.new.waiting ≡ [] → IsAtEnd (R.remaining from.new)) }
         ensures kept { OnErr result (Gives (R.remaining from.old) (R.remaining from.new) [] [] [] × (self.new.waiting ≡ [])) }
         ensures cause { HasCause self.old.faults self.new.faults result }
+        ensures counted { CountsErrors self.old.faults self.new.faults result }
     {
         self.start = 0;
         self.end = 0;
@@ -135,6 +136,7 @@ impl Buffer {
         ensures whole { OnOk result ((self.new.waiting ≡ []) × (self.new.room ≡ 65536)) }
         ensures content { Passes (W.contents out.old) (W.contents out.new) self.old.waiting [] self.new.waiting }
         ensures cause { HasCause self.old.faults self.new.faults result }
+        ensures counted { CountsErrors self.old.faults self.new.faults result }
     {
         let mut sent = 0;
         let result = write_out(self.waiting(), &mut sent, out);
@@ -151,7 +153,9 @@ impl Buffer {
     /// more is read past the buffer, where nothing waits.
     pub fn read_from<R: Read>(&mut self, from: &mut R, into: &mut [u8]) -> Result<usize, Failed>
         ensures bytes { ReadsThrough (R.remaining from.old) (R.remaining from.new) self.old.waiting self.new.waiting result into.new }
+        ensures waiting { GivesWaiting self.old self.new result into.new }
         ensures cause { HasCause self.old.faults self.new.faults result }
+        ensures counted { CountsErrors self.old.faults self.new.faults result }
     {
         if !self.waiting().is_empty() || into.is_empty() {
             return Ok(self.give(into));
@@ -171,6 +175,7 @@ impl Buffer {
         ensures bytes { ReadsThrough (R.remaining from.old) (R.remaining from.new) [] [] result into.new }
         ensures stays { self.new.waiting ≡ [] }
         ensures cause { HasCause self.old.faults self.new.faults result }
+        ensures counted { CountsErrors self.old.faults self.new.faults result }
     {
         let Ok(n) = from.read(into) else {
             return Err(self.fault());
@@ -182,7 +187,9 @@ impl Buffer {
     /// past the buffer, once nothing waits.
     pub fn write_to<W: Write>(&mut self, out: &mut W, piece: &[u8]) -> Result<usize, Failed>
         ensures bytes { WritesThrough (W.contents out.old) (W.contents out.new) self.old.waiting self.new.waiting result piece.now }
+        ensures short { KeepsShort self.old self.new result piece.now }
         ensures cause { HasCause self.old.faults self.new.faults result }
+        ensures counted { CountsErrors self.old.faults self.new.faults result }
     {
         let is_long = piece.len() >= CAPACITY;
         if self.end == CAPACITY || is_long {
@@ -202,6 +209,7 @@ impl Buffer {
         ensures bytes { WritesThrough (W.contents out.old) (W.contents out.new) [] [] result piece.now }
         ensures stays { self.new.waiting ≡ [] }
         ensures cause { HasCause self.old.faults self.new.faults result }
+        ensures counted { CountsErrors self.old.faults self.new.faults result }
     {
         match out.write(piece) {
             Ok(n) if n > 0 || piece.is_empty() => Ok(n),
@@ -214,6 +222,7 @@ impl Buffer {
         ensures whole { OnOk result (self.new.waiting ≡ []) }
         ensures content { Passes (W.contents out.old) (W.contents out.new) self.old.waiting [] self.new.waiting }
         ensures cause { HasCause self.old.faults self.new.faults result }
+        ensures counted { CountsErrors self.old.faults self.new.faults result }
     {
         let Ok(()) = self.drain(out) else {
             return Err(Failed);

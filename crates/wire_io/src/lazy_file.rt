@@ -1,10 +1,13 @@
-ghost use Rattle.std.specs.Prelude.{◌≡◌, ℕ, List, [], Option, None};
-ghost use Rattle.wire_io.specs.Buffers.{BufferState};
+ghost use Rattle.std.specs.Prelude.{◌≡◌, ℕ, ◌<◌, List, [], Option, None, Ok, length, false, true, IsSome, OnOk};
+ghost use Rattle.wire_io.specs.Faults.{CountsErrors, HasCause};
+ghost use Rattle.wire_io.specs.Sinks.{Writes};
+ghost use Rattle.wire_io.specs.Buffers.{BufferState, LazyState, KeepsShort};
 
 use crate::buffer::Buffer;
 use crate::sink::Sink;
 use crate::status::Failed;
 use std::fs;
+use std::marker::Model;
 use std::rt::Files;
 
 /// A file as a sink: made, and emptied where it is there, at the first `write` of a piece that isn't empty or
@@ -20,9 +23,20 @@ pub struct LazyFile<'a, R: Files + Drop> {
     behind: Buffer,
 }
 
+impl<'a, R: Files + Drop> Model for LazyFile<'a, R> {
+    ghost use Rattle.wire_io.specs.Buffers.{LazyState};
+    ghost use Rattle.std.specs.Prelude.{is_some};
+
+    ghost Value = { LazyState };
+
+    ghost view = { λ s. record { is_open = is_some s.file; behind = s.behind } };
+}
+
 impl<'a, R: Files + Drop> LazyFile<'a, R> {
     /// A sink over the file of this path, which isn't touched yet, without a fault.
-    pub fn new(files: R, path: &'a str) -> Self {
+    pub fn new(files: R, path: &'a str) -> Self
+        ensures { result ≡ record { is_open = false; behind = record { waiting = []; room = 65536; faults = 0 } } }
+    {
         LazyFile {
             files,
             path,
@@ -39,7 +53,15 @@ impl<'a, R: Files + Drop> Sink for LazyFile<'a, R> {
 
     ghost handed_on = { λ s. s.behind.waiting ≡ [] };
 
-    fn write(&mut self, bytes: &[u8]) -> Result<usize, Failed> {
+    fn write(&mut self, bytes: &[u8]) -> Result<usize, Failed>
+        ensures bytes { Writes None None result bytes.now }
+        ensures cause { HasCause self.old.behind.faults self.new.behind.faults result }
+        ensures empty { length bytes.now ≡ 0 → (result ≡ Ok 0) × (self.new ≡ self.old) }
+        ensures opens { OnOk result (0 < length bytes.now → self.new.is_open ≡ true) }
+        ensures stays_open { self.old.is_open ≡ true → self.new.is_open ≡ true }
+        ensures short { self.new.is_open ≡ true → 0 < length bytes.now → KeepsShort self.old.behind self.new.behind result bytes.now }
+        ensures counted { CountsErrors self.old.behind.faults self.new.behind.faults result }
+    {
         if bytes.is_empty() {
             return Ok(0);
         }
@@ -51,7 +73,14 @@ impl<'a, R: Files + Drop> Sink for LazyFile<'a, R> {
         result
     }
 
-    fn flush(&mut self) -> Result<(), Failed> {
+    fn flush(&mut self) -> Result<(), Failed>
+        ensures bytes { ◌≡◌ {A = Option (List ℕ)} None None }
+        ensures cause { HasCause self.old.behind.faults self.new.behind.faults result }
+        ensures handed_on { OnOk result (self.new.behind.waiting ≡ []) }
+        ensures opens { OnOk result (self.new.is_open ≡ true) }
+        ensures stays_open { self.old.is_open ≡ true → self.new.is_open ≡ true }
+        ensures counted { CountsErrors self.old.behind.faults self.new.behind.faults result }
+    {
         let Some(mut file) = opened(self.file.take(), &self.files, self.path) else {
             return Err(self.behind.fault());
         };
@@ -62,7 +91,9 @@ impl<'a, R: Files + Drop> Sink for LazyFile<'a, R> {
 }
 
 /// The file that is open, or else a new one, where it can be made.
-fn opened<R: Files>(file: Option<R::File>, files: &R, path: &str) -> Option<R::File> {
+fn opened<R: Files>(file: Option<R::File>, files: &R, path: &str) -> Option<R::File>
+    ensures { IsSome file → result ≡ file }
+{
     match file {
         Some(file) => Some(file),
         None => fs::create(files, path).ok(),
