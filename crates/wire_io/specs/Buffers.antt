@@ -44,7 +44,8 @@ KeepsShort old new result piece =
     0 < old.room → length piece < 65536 → (result ≡ Ok (min (length piece) old.room))
     × (new.waiting ≡ old.waiting ++ take old.room piece)
 
--- a file's sink: whether its file is open, and the buffer before it
+-- a file's sink: the file's path, whether it is open, and the buffer before it
 pub record LazyState : Type 0 where
+  pub path : List ℕ
   pub is_open : Bool
   pub behind : BufferState

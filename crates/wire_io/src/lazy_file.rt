@@ -29,13 +29,13 @@ impl<'a, R: Files + Drop> Model for LazyFile<'a, R> {
 
     ghost Value = { LazyState };
 
-    ghost view = { λ s. record { is_open = is_some s.file; behind = s.behind } };
+    ghost view = { λ s. record { path = s.path.now; is_open = is_some s.file; behind = s.behind } };
 }
 
 impl<'a, R: Files + Drop> LazyFile<'a, R> {
     /// A sink over the file of this path, which isn't touched yet, without a fault.
     pub fn new(files: R, path: &'a str) -> Self
-        ensures { result ≡ record { is_open = false; behind = record { waiting = []; room = 65536; faults = 0 } } }
+        ensures { result ≡ record { path = path.now; is_open = false; behind = record { waiting = []; room = 65536; faults = 0 } } }
     {
         LazyFile {
             files,
@@ -58,7 +58,7 @@ impl<'a, R: Files + Drop> Sink for LazyFile<'a, R> {
         ensures cause { HasCause self.old.behind.faults self.new.behind.faults result }
         ensures empty { length bytes.now ≡ 0 → (result ≡ Ok 0) × (self.new ≡ self.old) }
         ensures opens { OnOk result (0 < length bytes.now → self.new.is_open ≡ true) }
-        ensures stays_open { self.old.is_open ≡ true → self.new.is_open ≡ true }
+        ensures stays { (self.new.path ≡ self.old.path) × (self.old.is_open ≡ true → self.new.is_open ≡ true) }
         ensures short { self.new.is_open ≡ true → 0 < length bytes.now → KeepsShort self.old.behind self.new.behind result bytes.now }
         ensures counted { CountsErrors self.old.behind.faults self.new.behind.faults result }
     {
@@ -78,7 +78,7 @@ impl<'a, R: Files + Drop> Sink for LazyFile<'a, R> {
         ensures cause { HasCause self.old.behind.faults self.new.behind.faults result }
         ensures handed_on { OnOk result (self.new.behind.waiting ≡ []) }
         ensures opens { OnOk result (self.new.is_open ≡ true) }
-        ensures stays_open { self.old.is_open ≡ true → self.new.is_open ≡ true }
+        ensures stays { (self.new.path ≡ self.old.path) × (self.old.is_open ≡ true → self.new.is_open ≡ true) }
         ensures counted { CountsErrors self.old.behind.faults self.new.behind.faults result }
     {
         let Some(mut file) = opened(self.file.take(), &self.files, self.path) else {

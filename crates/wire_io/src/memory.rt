@@ -1,4 +1,4 @@
-ghost use Rattle.std.specs.Prelude.{◌≡◌, ℕ, ◌+◌, ◌-◌, ◌^◌, ◌<◌, ◌≤◌, ◌↔◌, ◌⊎◌, [], List, Option, Some, min, length, vec_len, Contains, IsTrue, IsErr, IfOk, OnOk, is_err, if◌then◌else◌};
+ghost use Rattle.std.specs.Prelude.{◌≡◌, ℕ, ◌+◌, ◌-◌, ◌^◌, ◌<◌, ◌≤◌, ◌↔◌, ◌⊎◌, [], List, Option, Some, min, drop, length, vec_len, Contains, IsTrue, IsErr, IfOk, OnOk, OnErr, is_err, if◌then◌else◌};
 ghost use Rattle.wire_io.specs.Faults.{HasCause};
 ghost use Rattle.wire_io.specs.Sources.{Reads};
 ghost use Rattle.wire_io.specs.Sinks.{Writes};
@@ -57,6 +57,8 @@ impl Source for MemSource {
         ensures cause { HasCause self.old.faults self.new.faults result }
         ensures listed { IsErr result ↔ Contains self.old.fail self.old.calls }
         ensures most { IfOk result (λ n. n ≡ min (length self.old.left) (length into.old)) }
+        ensures behind { IfOk result (λ n. drop n into.new ≡ drop n into.old) }
+        ensures untouched { OnErr result (into.new ≡ into.old) }
         ensures stays { self.new.fail ≡ self.old.fail }
         ensures called { self.new.calls ≡ min (self.old.calls + 1) (2 ^ 64 - 1) }
         ensures counted { self.new.faults ≡ (if is_err result then min (self.old.faults + 1) (2 ^ 64 - 1) else self.old.faults) }
