@@ -1,4 +1,5 @@
 ghost use Rattle.std.specs.Prelude.{◌≡◌, ℕ, ◌-◌, ◌<◌, ◌≤◌, ◌↔◌, ◌++◌, List, length, take, drop, replicate, IsSome, IfSome};
+
 use std::marker::Model;
 
 /// The most bytes that a `Name` holds.
