@@ -1,3 +1,4 @@
 pub mod Errors
 pub mod BufferWords
 pub mod ShortLists
+pub mod Bytes

@@ -7,6 +7,7 @@ mod errors;
 mod kinds;
 mod buffer_words;
 mod short_lists;
+mod words_in_bytes;
 
 pub use buffer_words::{
     ARRAY_BUFFER, BufferTarget, DYNAMIC_DRAW, ELEMENT_ARRAY_BUFFER, STATIC_DRAW, STREAM_DRAW, Usage,
@@ -17,3 +18,4 @@ pub use errors::{
 };
 pub use kinds::{Handle, Kind, Stage};
 pub use short_lists::{NAME_BYTES, Name, WORDS, Words};
+pub use words_in_bytes::{three_words, two_words, u32_at, word_bytes};

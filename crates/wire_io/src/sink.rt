@@ -1,0 +1,45 @@
+ghost use Rattle.std.specs.Prelude.{◌≡◌, ℕ, ◌≤◌, List, Option, OnOk};
+ghost use Rattle.wire_io.specs.Faults.{HasCause};
+ghost use Rattle.wire_io.specs.Sinks.{Writes, Sends};
+
+use crate::status::Failed;
+
+/// Where replies and commands go.
+pub trait Sink {
+    /// The bytes that it holds, where the sink tells them.
+    ghost held: { Self → Option (List ℕ) };
+
+    /// How many faults there were; it never falls, and stays at 2^64 - 1.
+    ghost faults: { Self → ℕ };
+
+    /// All that it took was handed on: nothing waits in a buffer of its own.
+    ghost handed_on: { Self → Type 0 };
+
+    /// Appends a prefix of the piece and answers its length, at least 1 for a piece that isn't empty. Failed
+    /// comes only where the number of faults rose, and then nothing was appended.
+    fn write(&mut self, bytes: &[u8]) -> Result<usize, Failed>
+        ensures bytes { Writes (held self.old) (held self.new) result bytes.now }
+        ensures cause { HasCause (faults self.old) (faults self.new) result };
+
+    /// Hands on all that was taken. It never changes what is held, and fails only where the number of faults
+    /// rose.
+    fn flush(&mut self) -> Result<(), Failed>
+        ensures bytes { held self.new ≡ held self.old }
+        ensures cause { HasCause (faults self.old) (faults self.new) result }
+        ensures handed_on { OnOk result (handed_on self.new) };
+}
+
+/// Writes until all of the bytes are taken; after Failed a front of them was appended.
+pub fn write_all<K: Sink>(bytes: &[u8], out: &mut K) -> Result<(), Failed>
+    ensures bytes { Sends (K.held out.old) (K.held out.new) result bytes.now }
+    ensures cause { HasCause (K.faults out.old) (K.faults out.new) result }
+{
+    let mut sent = 0;
+    while sent < bytes.len() {
+        let Ok(n) = out.write(&bytes[sent..]) else {
+            return Err(Failed);
+        };
+        sent += n;
+    }
+    Ok(())
+}
