@@ -11,3 +11,5 @@ pub mod Cutting
 pub mod Telling
 pub mod Completing
 pub mod Finishing
+pub mod OneStream
+pub mod OneSession

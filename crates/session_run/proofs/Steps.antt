@@ -17,10 +17,14 @@ use Rattle.gl_model.specs.Replay.{clean}
 use Rattle.gl_model.specs.Shot.{Shot}
 use Rattle.gl_model.proofs.Replaying.{replay-none, replay-append, resumed}
 use Rattle.session_run.specs.ErrorRecords.{error_effect}
-use Rattle.session_run.specs.PageStep.{refusal, step, step_judged, effect}
+use Rattle.session_run.specs.PageStep.{refusal, step, step_judged, effect, is_want}
 use Rattle.session_run.specs.PageRun.{Taken, step_taken, page_after, shots}
 use Rattle.session_run.specs.Sent.{sent, sent_judged, commands_of, all_sent}
-use Rattle.session_run.specs.Stands.{Agrees}
+use Rattle.std.proofs.Common.{ℕ, Result, Ok, Err}
+use Rattle.wire_io.specs.declared.status.Failed.{Failed}
+use Rattle.call_records.specs.declared.replies.Reply.{Reply}
+use Rattle.session_run.specs.Applied.{Applies, StepsOrStops}
+use Rattle.session_run.specs.Stands.{Kept, Agrees, Stands}
 use Rattle.session_run.specs.Follows.{Follows}
 use Rattle.session_run.proofs.Agreement.{agrees-errors}
 use Rattle.session_run.proofs.Following.{follows-create, follows-bind, follows-data}
@@ -79,3 +83,19 @@ follows-all w g (t ∷ taken) a fits =
     let first = follows-step w g t.call t.want a (fits 0 t (omega arith)) in
     follows-then g (sent w t.call t.want) (all_sent (step_taken w t).page taken) _ _ (step_taken w t).page _ first
     (follows-all (step_taken w t).page first.driver taken first.agrees (λ k d within. fits (suc k) d (omega arith)))
+
+-- a call that was applied, where what was kept stood for the page and the driver
+pub steps_applied : (w : PageState) (g : DriverState) (call : Call) (before kept : Kept) (old new : Option (List ℕ)) (result : Result Reply Failed)
+    → Stands before w g → Fits call → Applies w call kept old new result → StepsOrStops w g call kept old new result
+steps_applied w g call before kept old new (Ok reply) stands fits a =
+    let follows = follows-step w g call (is_want reply) stands.agrees fits in
+    record {
+      commands = sent w call (is_want reply);
+      driver = follows.driver;
+      applied = a;
+      exact = refl;
+      sends = a.sends;
+      replayed = follows.replayed;
+      stands = record { keeps = a.keeps; agrees = follows.agrees };
+    }
+steps_applied w g call before kept old new (Err failed) stands fits a = a

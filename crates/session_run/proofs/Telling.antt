@@ -1,10 +1,10 @@
 -- From the loop over records to what a run did with all its bytes.
-use Rattle.std.proofs.Common.{◌≡◌, ℕ, suc, ◌+◌, ◌≤◌, Option, Some, None, List, [], ◌∷◌, ◌++◌, length, take, Result, Ok, Err, refl, sym, ap, subst, ◌∙◌, arith, inl, inr, append-nil, append_assoc, length-append}
+use Rattle.std.proofs.Common.{◌≡◌, ℕ, suc, ◌+◌, ◌≤◌, Option, Some, None, List, [], ◌∷◌, ◌++◌, length, take, map, Result, Ok, Err, refl, sym, ap, subst, ◌∙◌, arith, inl, inr, lit≤, append-nil, append_assoc, length-append}
 use Rattle.std.proofs.Math.Seq.{take-append-add}
 use Rattle.std.specs.Io.KnownBytes.{prepend_known, append_known}
 use Rattle.wire_io.specs.Sources.{WhereTold}
 use Rattle.call_records.specs.declared.reading.ReadEnd.{ReadEnd}
-use Rattle.call_records.specs.Records.{session_start}
+use Rattle.call_records.specs.Records.{session_start, Fits}
 use Rattle.call_records.specs.Reading.{StartAnswers}
 use Rattle.command_stream.specs.Commands.{stream, stream_start}
 use Rattle.std.proofs.lemmas.Bool.Decides.{eqb_tells}
@@ -19,6 +19,8 @@ use Rattle.session_run.specs.Sessions.{records_of, answered_by, sent_by, AreTake
 use Rattle.session_run.specs.Outcomes.{Served, Did, WhereAllTold}
 use Rattle.session_run.specs.declared.session.RunEnd.{RunEnd}
 use Rattle.session_run.specs.declared.session.RunEnd.TheVariants.{Read, Write}
+use Rattle.session_run.proofs.OneSession.{session-one, All-map}
+use Rattle.session_run.proofs.OneStream.{fits-all, one-replay}
 use Rattle.session_run.proofs.Steps.{follows-all}
 use Rattle.session_run.proofs.Looping.{none-taken}
 use Rattle.gl_model.proofs.Replaying.{replay-front}
@@ -75,6 +77,7 @@ pub served : (taken : List Taken) (answered sends : List ℕ) → AreTaken taken
     → Served taken answered sends
 served taken answered sends are a s =
     let follows = follows-all first_page first_driver taken agrees-first are.fits in
+    let fit = fits-all first_page taken (lit≤ tt) are.fits in
     record {
       are = are;
       replied = a;
@@ -82,6 +85,10 @@ served taken answered sends are a s =
       sent_exactly = s;
       faultless = ap (λ (r : Replayed). r.fault) follows.replayed;
       drawn = ap (λ (r : Replayed). r.shots) follows.replayed;
+      commands_fit = fit;
+      from_bytes = λ commands fits e.
+          (let same = one-replay commands (all_sent first_page taken) fits fit (sym e ∙ s) in
+          (ap (λ (r : Replayed). r.fault) (same ∙ follows.replayed), ap (λ (r : Replayed). r.shots) (same ∙ follows.replayed)));
     }
 
 -- no call has no command and no reply
@@ -111,6 +118,8 @@ told_records left0 mid left out0 out stream0 streamm stream (Ok u) taken started
         taken = r.taken;
         served = served r.taken _ _ r.progress.are refl refl;
         whole = s.whole ∙ ap (λ l. session_start ++ l) b.holds.whole;
+        only = λ calls fits e. session-one calls (map (λ (t : Taken). t.call) r.taken) fits (All-map (λ (t : Taken). t.call) Fits r.taken r.progress.are.fits)
+            (sym e ∙ s.whole ∙ ap (λ l. session_start ++ l) b.holds.whole);
         nothing = b.holds.nothing;
       };
     }

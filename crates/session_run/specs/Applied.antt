@@ -15,7 +15,10 @@ use Rattle.command_stream.specs.Commands.{command_spelling}
 use Rattle.gl_model.specs.PageState.{PageState}
 use Rattle.session_run.specs.PageStep.{may_want, effect, value, step, MayWant, is_want}
 use Rattle.session_run.specs.Sent.{commands_of, sent}
-use Rattle.session_run.specs.Stands.{Kept, Keeps}
+use Rattle.std.specs.Option.{option_to_list}
+use Rattle.gl_model.specs.DriverState.{DriverState}
+use Rattle.gl_model.specs.Replay.{replay, clean}
+use Rattle.session_run.specs.Stands.{Kept, Keeps, Stands}
 
 -- the bytes of commands
 abbrev pub bytes_of : List Command → List ℕ
@@ -47,3 +50,19 @@ pub record Applied (w : PageState) (call : Call) (kept : Kept) (old new : Option
 abbrev pub Applies : PageState → Call → Kept → Option (List ℕ) → Option (List ℕ) → Result Reply Failed → Type 0
 Applies w call kept old new (Ok reply) = Applied w call kept old new reply
 Applies w call kept old new (Err failed) = Sends {T = Unit {0}} old new (Err failed) (bytes_of (sent w call false))
+
+-- a call was answered by a step of the page's machine; the commands that were sent replay without a fault to exactly the
+-- step's Shot, and what is kept stands for the page and the driver after it
+pub record Steps (w : PageState) (g : DriverState) (call : Call) (kept : Kept) (old new : Option (List ℕ)) (reply : Reply) : Type 0 where
+  pub commands : List Command
+  pub driver : DriverState
+  pub applied : Applied w call kept old new reply
+  pub exact : commands ≡ sent w call (is_want reply)
+  pub sends : new ≡ append_known old (bytes_of commands)
+  pub replayed : replay g commands ≡ clean driver (option_to_list (step w call (is_want reply)).made) commands
+  pub stands : Stands kept (step w call (is_want reply)).page driver
+
+-- a call was answered so, or its commands were cut short
+abbrev pub StepsOrStops : PageState → DriverState → Call → Kept → Option (List ℕ) → Option (List ℕ) → Result Reply Failed → Type 0
+StepsOrStops w g call kept old new (Ok reply) = Steps w g call kept old new reply
+StepsOrStops w g call kept old new (Err failed) = Sends {T = Unit {0}} old new (Err failed) (bytes_of (sent w call false))

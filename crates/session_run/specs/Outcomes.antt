@@ -5,9 +5,13 @@ use Rattle.wire_io.specs.declared.status.Status.TheVariants as Status
 use Rattle.wire_io.specs.Sources.{WhereTold}
 use Rattle.call_records.specs.declared.reading.ReadEnd.{ReadEnd}
 use Rattle.call_records.specs.declared.reading.ReadEnd.TheVariants.{Truncated, Magic, Version, UnknownOp, BodyLong, BodyShape, AfterEnd, InputLong, ReadFault}
-use Rattle.call_records.specs.Records.{session, session_start, Fits}
+use Rattle.call_records.specs.declared.calls.Call.{Call}
+use Rattle.call_records.specs.Records.{session, session_start, Fits, plain}
 use Rattle.call_records.specs.Reading.{StartRefuses, Refuses}
 use Rattle.command_stream.specs.Commands.{stream}
+use Rattle.command_stream.specs.declared.command.Command.{Command}
+use Rattle.command_stream.specs.Plain as Commands
+use Rattle.gl_model.specs.Shot.{Shot}
 use Rattle.gl_model.specs.PageState.{first_page}
 use Rattle.gl_model.specs.DriverState.{first_driver}
 use Rattle.gl_model.specs.Replay.{replay}
@@ -17,8 +21,14 @@ use Rattle.session_run.specs.Sessions.{records_of, answered_by, AreTaken}
 use Rattle.session_run.specs.declared.session.RunEnd.{RunEnd}
 use Rattle.session_run.specs.declared.session.RunEnd.TheVariants.{Read, Write}
 
--- these calls were answered, each by one reply that is the page machine's, and the driver's machine takes their commands
--- without a fault and makes exactly their Shots
+-- the bytes of a stream replay without a fault to these Shots: so do all commands whose bytes they are
+abbrev pub ReplaysTo : List ℕ → List Shot → Type 0
+ReplaysTo bytes made =
+    (commands : List Command) → All Commands.Fits commands → bytes ≡ stream commands
+    → ((replay first_driver commands).fault ≡ None) × ((replay first_driver commands).shots ≡ made)
+
+-- these calls were answered, each by one reply that is the page machine's; what was sent are whole commands, and the
+-- driver's machine takes them without a fault and makes exactly the calls' Shots
 pub record Served (taken : List Taken) (answered sends : List ℕ) : Type 0 where
   pub are : AreTaken taken
   pub replied : answered ≡ answered_by taken
@@ -26,12 +36,15 @@ pub record Served (taken : List Taken) (answered sends : List ℕ) : Type 0 wher
   pub sent_exactly : sends ≡ stream (all_sent first_page taken)
   pub faultless : (replay first_driver (all_sent first_page taken)).fault ≡ None
   pub drawn : (replay first_driver (all_sent first_page taken)).shots ≡ shots first_page taken
+  pub commands_fit : All Commands.Fits (all_sent first_page taken)
+  pub from_bytes : ReplaysTo sends (shots first_page taken)
 
 -- the session was read to its end, and all its calls were served
 pub record Headline (input left answered sends : List ℕ) : Type 0 where
   pub taken : List Taken
   pub served : Served taken answered sends
   pub whole : input ≡ session (map (λ t. t.call) taken)
+  pub only : (calls : List Call) → All Fits calls → input ≡ session calls → map plain calls ≡ map plain (map (λ t. t.call) taken)
   pub nothing : left ≡ []
 
 -- the session's header was refused, or the source failed in it: no call was taken

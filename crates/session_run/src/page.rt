@@ -4,15 +4,16 @@ ghost use Rattle.gl_model.specs.Errors.{no_errors, raise};
 ghost use Rattle.gl_model.specs.Refusals.{first_refusal};
 ghost use Rattle.gl_model.specs.Buffers.{no_bindings, bound_to};
 ghost use Rattle.gl_model.specs.PageState.{PageState, buffer_at, first_page};
+ghost use Rattle.gl_model.specs.DriverState.{DriverState};
 ghost use Rattle.gl_model.specs.DriverStep.{first_target_of};
 ghost use Rattle.wire_io.specs.Faults.{HasCause};
 ghost use Rattle.call_records.specs.declared.calls.Call.TheVariants.{Create, BindBuffer, BufferData, GetError};
 ghost use Rattle.call_records.specs.declared.calls.New.TheVariants.{Buffer};
 ghost use Rattle.session_run.specs.BufferRecords.{create_rules, bind_rules, bind_effect, data_rules};
 ghost use Rattle.session_run.specs.PageStep.{refusal};
-ghost use Rattle.session_run.specs.Stands.{Keeps, kept_bound, with_target};
+ghost use Rattle.session_run.specs.Stands.{Keeps, Stands, kept_bound, with_target};
 ghost use Rattle.session_run.specs.Sent.{driver_name, bound_name};
-ghost use Rattle.session_run.specs.Applied.{HasHandle, Acts, Applies};
+ghost use Rattle.session_run.specs.Applied.{HasHandle, Acts, Applies, StepsOrStops};
 ghost use Rattle.call_records.specs.Records.{Fits};
 ghost use Rattle.gl_numbers.specs.Errors.{code_of};
 ghost use Rattle.call_records.specs.declared.replies.Value.TheVariants.{Nothing};
@@ -188,8 +189,8 @@ impl Page {
         }
     }
 
-    /// Judges a call, and then acts on it: answers with the step of the page's machine, and sends its commands.
-    pub fn apply<T: Sink>(&mut self, call: &Call<'_>, stream: &mut T) -> Result<Reply, Failed>
+    /// Judges a call, and then acts on it.
+    fn respond<T: Sink>(&mut self, call: &Call<'_>, stream: &mut T) -> Result<Reply, Failed>
         requires { Fits call.now }
         ensures applies { (w : PageState) → Keeps self.old w → Applies w call.now self.new (T.held stream.old) (T.held stream.new) result }
         ensures cause { HasCause (T.faults stream.old) (T.faults stream.new) result }
@@ -205,6 +206,17 @@ impl Page {
             Ok(Err(Memory)) => Ok(self.raise(GlError::Memory)),
             Err(Failed) => Err(Failed),
         }
+    }
+
+    /// Answers a call with the step of the page's machine, and sends its commands to the driver. After Failed a front of them
+    /// was sent, and the page isn't used again.
+    pub fn apply<T: Sink>(&mut self, call: &Call<'_>, stream: &mut T) -> Result<Reply, Failed>
+        requires { Fits call.now }
+        ensures applies { (w : PageState) → Keeps self.old w → Applies w call.now self.new (T.held stream.old) (T.held stream.new) result }
+        ensures steps { (w : PageState) (g : DriverState) → Stands self.old w g → StepsOrStops w g call.now self.new (T.held stream.old) (T.held stream.new) result }
+        ensures cause { HasCause (T.faults stream.old) (T.faults stream.new) result }
+    {
+        self.respond(call, stream)
     }
 
     /// createBuffer, where a handle is left: one more buffer, and its driver's object.
