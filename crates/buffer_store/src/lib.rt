@@ -13,3 +13,6 @@ mod held;
 
 pub use buffers::Buffers;
 pub use content::{BUFFER_BYTES, Content};
+
+#[cfg(test)]
+mod tests;
