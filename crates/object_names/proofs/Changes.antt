@@ -73,3 +73,6 @@ changed_by objects h f (Some o) at q false a =
 pub object_at-changed : (objects : List Object) (h : ℕ) (f : Object → Object) (q : ℕ)
     → object_at (changed objects h f) q ≡ cond (q == h) (option_map f (object_at objects h)) (object_at objects q)
 object_at-changed objects h f q = changed_by objects h f (object_at objects h) refl q (q == h) refl
+
+-- what stands at a handle
+pub ruleset of_objects = (object_at-made, object_at-changed)

@@ -43,6 +43,7 @@ fn names_buffer(rt: &impl Abort, names: &Names, h: Handle, want: Find) {
 }
 
 #[test]
+#[tactic(auto, using(crate::proofs::Changes::of_objects))]
 fn a_held_object_is_gone_once_it_is_let_go(rt: HostRuntime) -> Result<(), Fail> {
     let mut names = Names::new(rt.alloc());
     let Ok(_) = names.room(Kind::Buffer) else {
@@ -62,6 +63,7 @@ fn a_held_object_is_gone_once_it_is_let_go(rt: HostRuntime) -> Result<(), Fail> 
 }
 
 #[test]
+#[tactic(auto, using(crate::proofs::Changes::of_objects))]
 fn an_object_that_nothing_holds_is_gone_at_once(rt: HostRuntime) -> Result<(), Fail> {
     let mut names = Names::new(rt.alloc());
     let Ok(_) = names.room(Kind::Buffer) else {
