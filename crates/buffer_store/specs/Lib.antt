@@ -1,0 +1,6 @@
+pub mod Buffer
+pub mod Content
+pub mod Held
+pub mod Stored
+pub mod Rules
+pub mod Codes

@@ -1,0 +1,148 @@
+ghost use Rattle.std.specs.Prelude.{◌≡◌, ◌+◌, ◌≤◌, Some, None, IsNone, IsSome, IfSome, IsSomeAnd, OnOk, OnErr, length};
+ghost use Rattle.std.specs.Option.{option_copied};
+ghost use Rattle.std.specs.FinMap.{empty, get, insert, remove};
+ghost use Rattle.buffer_store.specs.Buffer.{IsIndexed, with_bytes, with_first};
+ghost use Rattle.buffer_store.specs.Stored.{IsOf, KeepsFirst, changed_at};
+ghost use Rattle.buffer_store.specs.Rules.{Answers, refused_of};
+
+use crate::held::Held;
+use gl_numbers::{BufferTarget, GlError, Handle, Memory};
+use std::alloc::Global;
+use std::collections::BTreeMap;
+use std::marker::Model;
+
+/// The buffers that are there, by handle.
+#[derive(Drop)]
+pub(crate) struct ByHandle {
+    held: BTreeMap<Handle, Held>,
+}
+
+impl Model for ByHandle {
+    ghost use Rattle.std.specs.FinMap.{from_entries};
+    ghost use Rattle.buffer_store.specs.Stored.{Shelf};
+    ghost use Rattle.buffer_store.specs.Codes.{shelf_code};
+
+    ghost Value = { Shelf };
+
+    ghost coded = { shelf_code };
+
+    ghost view = { λ a. from_entries a.held.entries };
+}
+
+#[tactic(auto, using(crate::proofs::Shelf::of_shelf))]
+impl ByHandle {
+    /// No buffer at all.
+    pub(crate) fn new(alloc: Global) -> ByHandle
+        ensures { result ≡ empty }
+    {
+        ByHandle {
+            held: BTreeMap::new(alloc),
+        }
+    }
+
+    /// The buffer of this handle.
+    pub(crate) fn get(&self, h: Handle) -> Option<&Held>
+        ensures { option_copied result ≡ get self.now h }
+    {
+        self.held.get(&h)
+    }
+
+    /// Adds a buffer under a handle that has none.
+    pub(crate) fn add(&mut self, h: Handle, held: Held) -> Result<(), Memory>
+        requires { IsNone (get self.old h) }
+        ensures ok { OnOk result (self.new ≡ insert self.old h held) }
+        ensures err { OnErr result (self.new ≡ self.old) }
+        ensures firsts { KeepsFirst self.old self.new }
+    {
+        match self.held.insert(h, held) {
+            Ok(_) => Ok(()),
+            Err(_) => Err(Memory),
+        }
+    }
+
+    /// Puts another buffer of the same target in the place of the one of this handle.
+    pub(crate) fn replace(&mut self, target: BufferTarget, h: Handle, held: Held)
+        requires old { IsOf target (get self.old h) }
+        requires new { held.first ≡ Some target }
+        ensures value { self.new ≡ insert self.old h held }
+        ensures firsts { KeepsFirst self.old self.new }
+    {
+        self.put(h, held);
+    }
+
+    /// Puts another buffer in the place of the one of this handle.
+    fn put(&mut self, h: Handle, held: Held)
+        requires { IsSome (get self.old h) }
+        ensures { self.new ≡ insert self.old h held }
+    {
+        if let Some(place) = self.held.get_mut(&h) {
+            *place = held;
+        }
+    }
+
+    /// Makes the buffer of this handle one of this target. Operation where it is one of the other, and then
+    /// nothing changes.
+    pub(crate) fn claim(
+        &mut self,
+        alloc: Global,
+        target: BufferTarget,
+        h: Handle,
+    ) -> Result<(), GlError>
+        requires { IsSome (get self.old h) }
+        ensures answer { Answers (refused_of target (get self.old h)) result }
+        ensures ok { OnOk result (self.new ≡ changed_at self.old h (with_first target) (get self.old h)) }
+        ensures err { OnErr result (self.new ≡ self.old) }
+        ensures firsts { KeepsFirst self.old self.new }
+        ensures claimed { OnOk result (IsOf target (get self.new h)) }
+    {
+        let first = self.first(h);
+        match (first, target) {
+            (None, _) => {
+                self.take_target(alloc, h, target);
+                Ok(())
+            }
+            (Some(BufferTarget::Array), BufferTarget::Array)
+            | (Some(BufferTarget::ElementArray), BufferTarget::ElementArray) => Ok(()),
+            _ => Err(GlError::Operation),
+        }
+    }
+
+    /// The target that the buffer of this handle was first bound to.
+    fn first(&self, h: Handle) -> Option<BufferTarget>
+        requires { IsSome (get self.now h) }
+        ensures { IfSome (get self.now h) (λ b. result ≡ b.first) }
+    {
+        match self.get(h) {
+            Some(held) => held.first(),
+            None => unreachable!(),
+        }
+    }
+
+    /// Makes a buffer that was never bound one of this target.
+    fn take_target(&mut self, alloc: Global, h: Handle, target: BufferTarget)
+        requires { IsSomeAnd (get self.old h) (λ b. b.first ≡ None) }
+        ensures { self.new ≡ changed_at self.old h (with_first target) (get self.old h) }
+    {
+        if let Some(held) = self.held.get_mut(&h) {
+            held.take_target(alloc, target);
+        }
+    }
+
+    /// Writes these bytes from `at` on into the element buffer of this handle.
+    pub(crate) fn patch(&mut self, h: Handle, at: usize, bytes: &[u8])
+        requires { IsSomeAnd (get self.old h) (IsIndexed (at + length bytes.now)) }
+        ensures value { self.new ≡ changed_at self.old h (with_bytes at bytes.now) (get self.old h) }
+        ensures firsts { KeepsFirst self.old self.new }
+    {
+        if let Some(held) = self.held.get_mut(&h) {
+            held.patch(at, bytes);
+        }
+    }
+
+    /// Takes the buffer of this handle away, if it is there.
+    pub(crate) fn remove(&mut self, h: Handle)
+        ensures { self.new ≡ remove self.old h }
+    {
+        let _ = self.held.remove(&h);
+    }
+}

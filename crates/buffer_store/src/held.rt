@@ -1,0 +1,155 @@
+ghost use Rattle.std.specs.Prelude.{◌≡◌, ◌+◌, ◌≤◌, length, IfOk, OnErr};
+ghost use Rattle.buffer_store.specs.Buffer.{IsIndexed, IsSound, new_buffer, put_bytes, with_bytes, with_first, word_of};
+ghost use Rattle.buffer_store.specs.Content.{size_of, buffer_of};
+ghost use Rattle.step_count.specs.Content.{content};
+ghost use Rattle.gl_numbers.specs.declared.buffer_words.BufferTarget.TheVariants.{ElementArray};
+
+use crate::{BUFFER_BYTES, Content};
+use gl_numbers::{BufferTarget, DYNAMIC_DRAW, Memory, STATIC_DRAW, STREAM_DRAW, Usage};
+use std::alloc::Global;
+use std::marker::Model;
+use step_count::Bytes;
+
+/// What is kept of a buffer, by the target that it was first bound to.
+#[derive(Drop)]
+pub(crate) enum Kept {
+    /// It was never bound, and so has no bytes.
+    Unbound,
+    /// It holds vertices: their number of bytes.
+    Vertices(u32),
+    /// It holds indices: their bytes.
+    Indices(Vec<u8>),
+}
+
+/// One buffer.
+#[derive(Drop)]
+pub(crate) struct Held {
+    kept: Kept,
+    usage: Usage,
+}
+
+impl Model for Held {
+    ghost use Rattle.buffer_store.specs.Buffer.{Buffer, IsSound};
+
+    ghost Value = { Buffer };
+
+    ghost use Rattle.buffer_store.specs.Held.{shown};
+
+    ghost view = { λ a. shown a.kept a.usage };
+
+    ghost invariant = { λ a. IsSound (shown a.kept a.usage) };
+}
+
+impl Held {
+    /// A buffer that was just made.
+    pub(crate) fn new() -> Held
+        ensures { result ≡ new_buffer }
+    {
+        Held {
+            kept: Kept::Unbound,
+            usage: Usage::StaticDraw,
+        }
+    }
+
+    /// A buffer of this target with this content; Err only where memory is wanting for the bytes of an element
+    /// buffer.
+    pub(crate) fn filled(
+        alloc: Global,
+        target: BufferTarget,
+        content: Content<'_>,
+        usage: Usage,
+    ) -> Result<Held, Memory>
+        requires { size_of content ≤ BUFFER_BYTES }
+        ensures ok { IfOk result (λ b. b ≡ buffer_of target content.entry usage) }
+        ensures want { OnErr result (target ≡ ElementArray) }
+    {
+        let kept = match target {
+            BufferTarget::Array => Kept::Vertices(content.size()),
+            BufferTarget::ElementArray => {
+                let Ok(bytes) = content.copied(alloc) else {
+                    return Err(Memory);
+                };
+                Kept::Indices(bytes)
+            }
+        };
+        Ok(Held { kept, usage })
+    }
+
+    /// The target that it was first bound to.
+    pub(crate) fn first(&self) -> Option<BufferTarget>
+        ensures value { result ≡ self.now.first }
+        ensures sound { IsSound self.now }
+    {
+        match &self.kept {
+            Kept::Unbound => None,
+            Kept::Vertices(_) => Some(BufferTarget::Array),
+            Kept::Indices(_) => Some(BufferTarget::ElementArray),
+        }
+    }
+
+    /// Its size in bytes, at most 67,108,864.
+    pub(crate) fn size(&self) -> u32
+        ensures value { result ≡ self.now.size }
+        ensures sound { IsSound self.now }
+    {
+        match &self.kept {
+            Kept::Unbound => 0,
+            Kept::Vertices(size) => *size,
+            Kept::Indices(bytes) => bytes.as_slice().len() as u32,
+        }
+    }
+
+    /// The GL word of its usage.
+    pub(crate) fn usage(&self) -> u32
+        ensures { result ≡ word_of self.now.usage }
+    {
+        match self.usage {
+            Usage::StreamDraw => STREAM_DRAW,
+            Usage::StaticDraw => STATIC_DRAW,
+            Usage::DynamicDraw => DYNAMIC_DRAW,
+        }
+    }
+
+    /// The bytes of an element buffer.
+    pub(crate) fn indices(&self) -> Bytes<'_>
+        requires { self.now.first ≡ Some ElementArray }
+        ensures value { content result ≡ self.now.bytes }
+        ensures sound { IsSound self.now }
+    {
+        match &self.kept {
+            Kept::Indices(bytes) => Bytes::new(bytes),
+            _ => unreachable!(),
+        }
+    }
+
+    /// Makes it a buffer of this target, as the first binding does.
+    pub(crate) fn take_target(&mut self, alloc: Global, target: BufferTarget)
+        requires { self.old.first ≡ None }
+        ensures { self.new ≡ with_first target self.old }
+    {
+        self.kept = match target {
+            BufferTarget::Array => Kept::Vertices(0),
+            BufferTarget::ElementArray => Kept::Indices(Vec::new(alloc)),
+        };
+    }
+
+    /// Writes these bytes from `at` on into an element buffer.
+    pub(crate) fn patch(&mut self, at: usize, bytes: &[u8])
+        requires { IsIndexed (at + length bytes.now) self.old }
+        ensures { self.new ≡ with_bytes at bytes.now self.old }
+    {
+        if let Kept::Indices(kept) = &mut self.kept {
+            copy_at(kept, at, bytes);
+        }
+    }
+}
+
+/// Writes `bytes` into `into` from `at` on.
+fn copy_at(into: &mut [u8], at: usize, bytes: &[u8])
+    requires { at + length bytes.now ≤ length into.old }
+    ensures { into.new ≡ put_bytes at bytes.now into.old }
+{
+    let (_, rest) = into.split_at_mut(at);
+    let (place, _) = rest.split_at_mut(bytes.len());
+    place.copy_from_slice(bytes);
+}
