@@ -9,6 +9,8 @@ pub const BODY_MAX: u32 = 16_777_280;
 
 /// The number of `Operation::MakeBuffer`.
 pub const MAKE_BUFFER: u32 = 1;
+/// The number of `Operation::DropBuffer`.
+pub const DROP_BUFFER: u32 = 6;
 /// The number of `Operation::BindBuffer`.
 pub const BIND_BUFFER: u32 = 11;
 /// The number of `Operation::BufferSize`.
@@ -21,6 +23,8 @@ pub const BUFFER_BYTES: u32 = 13;
 pub enum Operation {
     /// A buffer's name comes into use: one word, the name (OpenGL ES 2.0 section 2.9).
     MakeBuffer,
+    /// DeleteBuffers of one name: one word, the name (section 2.9).
+    DropBuffer,
     /// BindBuffer: two words, the target and the name, 0 for none (section 2.9).
     BindBuffer,
     /// BufferData of zero bytes: three words, the target, the usage and the size in bytes (section 2.9).
@@ -36,6 +40,7 @@ impl Operation {
     {
         match self {
             Operation::MakeBuffer => MAKE_BUFFER,
+            Operation::DropBuffer => DROP_BUFFER,
             Operation::BindBuffer => BIND_BUFFER,
             Operation::BufferSize => BUFFER_SIZE,
             Operation::BufferBytes => BUFFER_BYTES,
@@ -48,6 +53,7 @@ impl Operation {
     {
         match self {
             Operation::MakeBuffer => 4,
+            Operation::DropBuffer => 4,
             Operation::BindBuffer => 8,
             Operation::BufferSize => 12,
             Operation::BufferBytes => 8,

@@ -5,7 +5,7 @@ use std::test::Fail;
 use wire_io::{Failed, MemSink, Sink};
 
 /// The header, and then each operation once, by hand from the format: words are little-endian.
-const STREAM: [u8; 74] = [
+const STREAM: [u8; 86] = [
     0x45, 0x53, 0x43, 0x53, 0x01, 0x00, 0x00, 0x00, // ESCS, version 1
     0x01, 0x00, 0x00, 0x00, 0x04, 0x00, 0x00, 0x00, 0x03, 0x00, 0x00, 0x00, // MakeBuffer 3
     0x0B, 0x00, 0x00, 0x00, 0x08, 0x00, 0x00, 0x00, 0x92, 0x88, 0x00, 0x00, 0x03, 0x00, 0x00, 0x00, // BindBuffer
@@ -13,10 +13,11 @@ const STREAM: [u8; 74] = [
     0x02, 0x00, 0x00, 0x00, // BufferSize of two bytes
     0x0D, 0x00, 0x00, 0x00, 0x0A, 0x00, 0x00, 0x00, 0x92, 0x88, 0x00, 0x00, 0x00, 0x00, 0x00, 0x00,
     0xAA, 0xBB,
+    0x06, 0x00, 0x00, 0x00, 0x04, 0x00, 0x00, 0x00, 0x03, 0x00, 0x00, 0x00, // DropBuffer 3
 ];
 
 /// Where each call on the sink begins.
-const CALLS: [usize; 6] = [0, 8, 20, 36, 56, 72];
+const CALLS: [usize; 7] = [0, 8, 20, 36, 56, 72, 74];
 
 #[tactic(auto, using(crate::proofs::Allowed::allowed_commands))]
 fn write_stream<S: Sink>(bytes: &[u8], stream: &mut S) -> Result<(), Failed>
@@ -26,7 +27,8 @@ fn write_stream<S: Sink>(bytes: &[u8], stream: &mut S) -> Result<(), Failed>
     write_command(&Command::MakeBuffer(3), stream)?;
     write_command(&Command::BindBuffer(0x8892, 3), stream)?;
     write_command(&Command::BufferSize(0x8892, 0x88E4, 2), stream)?;
-    write_command(&Command::BufferBytes(0x8892, 0, bytes), stream)
+    write_command(&Command::BufferBytes(0x8892, 0, bytes), stream)?;
+    write_command(&Command::DropBuffer(3), stream)
 }
 
 #[test]
