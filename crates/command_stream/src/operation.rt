@@ -1,8 +1,11 @@
-ghost use Rattle.std.specs.Prelude.{◌≡◌};
-ghost use Rattle.command_stream.specs.Operations.{number_of, field_bytes_of};
+ghost use Rattle.std.specs.Prelude.{◌≡◌, IfSome};
+ghost use Rattle.command_stream.specs.Operations.{number_of, field_bytes_of, ends_in_bytes, operation_numbered, allows};
 
 /// The version that a stream's header names.
 pub const STREAM_VERSION: u32 = 1;
+
+/// The bytes of a command's header: its operation, and its body's length in bytes.
+pub const HEADER_BYTES: usize = 8;
 
 /// A command's body has at most this many bytes: 16 MiB of data, and 64 bytes for the words before them.
 pub const BODY_MAX: u32 = 16_777_280;
@@ -57,6 +60,44 @@ impl Operation {
             Operation::BindBuffer => 8,
             Operation::BufferSize => 12,
             Operation::BufferBytes => 8,
+        }
+    }
+
+    /// Whether bytes follow the words of the body.
+    pub fn has_bytes(self) -> bool
+        ensures { result ≡ ends_in_bytes self }
+    {
+        match self {
+            Operation::BufferBytes => true,
+            _ => false,
+        }
+    }
+
+    /// The operation of this number; None exactly where the table has none.
+    #[tactic(auto, unfolding(crate::specs::Operations::operation_numbered))]
+    pub fn from_u32(n: u32) -> Option<Self>
+        ensures found { result ≡ operation_numbered n }
+        ensures number { IfSome result (λ operation. number_of operation ≡ n) }
+    {
+        match n {
+            MAKE_BUFFER => Some(Operation::MakeBuffer),
+            DROP_BUFFER => Some(Operation::DropBuffer),
+            BIND_BUFFER => Some(Operation::BindBuffer),
+            BUFFER_SIZE => Some(Operation::BufferSize),
+            BUFFER_BYTES => Some(Operation::BufferBytes),
+            _ => None,
+        }
+    }
+
+    /// Whether a body of `len` bytes is one of this operation's: its words and nothing else, or its words and
+    /// then bytes, at most `BODY_MAX` in all.
+    pub fn allows(self, len: u32) -> bool
+        ensures { result ≡ allows self len }
+    {
+        if self.has_bytes() {
+            self.field_bytes() <= len && len <= BODY_MAX
+        } else {
+            len == self.field_bytes()
         }
     }
 }
