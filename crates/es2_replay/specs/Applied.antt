@@ -5,7 +5,7 @@ use Rattle.gl_numbers.specs.Errors.{code_of}
 use Rattle.gl_numbers.specs.declared.errors.GlError.{GlError}
 use Rattle.gl_numbers.specs.declared.errors.Memory.{Memory as NoMemory}
 use Rattle.command_stream.specs.declared.command.Command.{Command}
-use Rattle.command_stream.specs.declared.command.Command.TheVariants.{MakeBuffer, BindBuffer, BufferSize, BufferBytes}
+use Rattle.command_stream.specs.declared.command.Command.TheVariants.{MakeBuffer, DropBuffer, BindBuffer, BufferSize, BufferBytes}
 use Rattle.gl_model.specs.DriverState.{DriverState}
 use Rattle.gl_model.specs.DriverStep.{gl_error, outside_fetch, effect, shot}
 use Rattle.gl_model.specs.Replay.{fault_of}
@@ -21,6 +21,7 @@ kind_of made = elim made [ ]
 -- the commands that take memory
 abbrev pub takes_memory : Command → Bool
 takes_memory (MakeBuffer name) = true
+takes_memory (DropBuffer name) = false
 takes_memory (BindBuffer target name) = false
 takes_memory (BufferSize target usage size) = true
 takes_memory (BufferBytes target offset part) = false

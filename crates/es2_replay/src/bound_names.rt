@@ -1,6 +1,6 @@
 ghost use Rattle.std.specs.Prelude.{◌≡◌};
 ghost use Rattle.std.specs.Option.{option_and_then};
-ghost use Rattle.gl_model.specs.Buffers.{no_bindings, binding, bind, non_zero};
+ghost use Rattle.gl_model.specs.Buffers.{no_bindings, binding, bind, unbind, unless_name, non_zero};
 
 use gl_numbers::BufferTarget;
 use std::marker::Model;
@@ -54,5 +54,23 @@ impl BoundNames {
             Some(BufferTarget::ElementArray) => self.element_array = bound,
             None => {}
         }
+    }
+
+    /// A name is bound to neither target.
+    pub fn unbind(&mut self, name: u32)
+        ensures { self.new ≡ unbind name self.old }
+    {
+        self.array = unless_name(name, self.array);
+        self.element_array = unless_name(name, self.element_array);
+    }
+}
+
+/// What is bound to a target, unless it is the name.
+fn unless_name(name: u32, bound: Option<u32>) -> Option<u32>
+    ensures { result ≡ unless_name name bound }
+{
+    match bound {
+        Some(other) if other != name => Some(other),
+        _ => None,
     }
 }

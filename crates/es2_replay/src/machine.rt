@@ -2,7 +2,7 @@ ghost use Rattle.std.specs.Prelude.{◌≡◌, ℕ, ◌+◌, ◌<◌, ◌^◌, O
 ghost use Rattle.gl_model.specs.Buffers.{bound_to, take_target};
 ghost use Rattle.gl_model.specs.DriverState.{first_driver};
 ghost use Rattle.gl_model.specs.DriverStep.{refusal, effect, first_target_of, size_of};
-ghost use Rattle.command_stream.specs.declared.command.Command.TheVariants.{MakeBuffer, BindBuffer, BufferSize, BufferBytes};
+ghost use Rattle.command_stream.specs.declared.command.Command.TheVariants.{MakeBuffer, DropBuffer, BindBuffer, BufferSize, BufferBytes};
 ghost use Rattle.es2_replay.specs.Kept.{named, state_of, changed};
 ghost use Rattle.es2_replay.specs.Applied.{Acts, Applies};
 
@@ -10,13 +10,11 @@ use crate::bound_names::BoundNames;
 use crate::buffer_object::BufferObject;
 use crate::faults::{Fault, Shot};
 use command_stream::Command;
+use gl_model::MOST_BYTES;
 use gl_numbers::{BufferTarget, GlError, Memory, Usage};
 use std::alloc::Global;
 use std::collections::BTreeMap;
 use std::marker::Model;
-
-/// The most bytes that a buffer has.
-pub const MOST_BYTES: u32 = 67_108_864;
 
 /// The driver's machine: the buffers that are made, by name, what is bound, and how many commands were applied.
 #[derive(Drop)]
@@ -100,6 +98,16 @@ impl Machine {
         None
     }
 
+    /// Why DropBuffer is refused, if it is.
+    fn drop_refusal(&self, name: u32) -> Option<GlError>
+        ensures { result ≡ refusal (state_of self.now) (DropBuffer name) }
+    {
+        if !self.is_made(name) {
+            return Some(GlError::Operation);
+        }
+        None
+    }
+
     /// Why BindBuffer is refused, if it is.
     fn bind_refusal(&self, target: u32, name: u32) -> Option<GlError>
         ensures { result ≡ refusal (state_of self.now) (BindBuffer target name) }
@@ -154,6 +162,7 @@ impl Machine {
     {
         match c {
             Command::MakeBuffer(name) => self.make_refusal(*name),
+            Command::DropBuffer(name) => self.drop_refusal(*name),
             Command::BindBuffer(target, name) => self.bind_refusal(*target, *name),
             Command::BufferSize(target, usage, size) => self.size_refusal(*target, *usage, *size),
             Command::BufferBytes(target, offset, part) => self.bytes_refusal(*target, *offset, part),
@@ -171,6 +180,15 @@ impl Machine {
             return Err(Memory);
         };
         Ok(())
+    }
+
+    /// DropBuffer: the name is made no longer, and bound no longer.
+    fn drop_buffer(&mut self, name: u32)
+        ensures state { state_of self.new ≡ effect (state_of self.old) (DropBuffer name) }
+        ensures count { self.new.count ≡ self.old.count }
+    {
+        let _gone = self.buffers.remove(&name);
+        self.bound.unbind(name);
     }
 
     /// The buffer of a name, where it is made, takes a target.
@@ -235,6 +253,10 @@ impl Machine {
     {
         match c {
             Command::MakeBuffer(name) => self.make_buffer(*name),
+            Command::DropBuffer(name) => {
+                self.drop_buffer(*name);
+                Ok(())
+            }
             Command::BindBuffer(target, name) => {
                 self.bind_buffer(*target, *name);
                 Ok(())
