@@ -2,12 +2,16 @@
 use Rattle.std.proofs.Common.{ℕ, ◌+◌, ◌≤◌, List, length, Bor, arith}
 use Rattle.gl_numbers.specs.Bytes.{le32}
 use Rattle.command_stream.specs.declared.operation.TheConstants.{BODY_MAX}
-use Rattle.command_stream.specs.declared.command.Command.TheVariants.{MakeBuffer, BindBuffer, BufferSize, BufferBytes}
+use Rattle.command_stream.specs.declared.command.Command.TheVariants.{MakeBuffer, DropBuffer, BindBuffer, BufferSize, BufferBytes}
 use Rattle.command_stream.specs.Commands.{Allowed}
 
 pub make_buffer_allowed : (name : ℕ) → Allowed (MakeBuffer name)
 unfolding le32
 make_buffer_allowed name = omega arith
+
+pub drop_buffer_allowed : (name : ℕ) → Allowed (DropBuffer name)
+unfolding le32
+drop_buffer_allowed name = omega arith
 
 pub bind_buffer_allowed : (target name : ℕ) → Allowed (BindBuffer target name)
 unfolding le32
@@ -21,4 +25,4 @@ pub buffer_bytes_allowed : (target offset : ℕ) (bytes : Bor (List ℕ)) → 8 
 unfolding le32
 buffer_bytes_allowed target offset bytes short = omega arith
 
-pub ruleset allowed_commands = (make_buffer_allowed, bind_buffer_allowed, buffer_size_allowed, buffer_bytes_allowed)
+pub ruleset allowed_commands = (make_buffer_allowed, drop_buffer_allowed, bind_buffer_allowed, buffer_size_allowed, buffer_bytes_allowed)

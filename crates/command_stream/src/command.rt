@@ -4,6 +4,8 @@
 pub enum Command<'a> {
     /// Makes a buffer of this name.
     MakeBuffer(u32),
+    /// Gives up the buffer of this name; where it is bound, its targets have none.
+    DropBuffer(u32),
     /// Binds to the target the buffer of this name, or none where the name is 0.
     BindBuffer(u32, u32),
     /// Gives the buffer bound to the target this usage and this size, with zero bytes.

@@ -1,6 +1,6 @@
 ghost use Rattle.std.specs.Prelude.{◌≡◌, ◌++◌};
 ghost use Rattle.gl_numbers.specs.Bytes.{le32};
-ghost use Rattle.command_stream.specs.declared.command.Command.TheVariants.{MakeBuffer, BindBuffer, BufferSize, BufferBytes};
+ghost use Rattle.command_stream.specs.declared.command.Command.TheVariants.{MakeBuffer, DropBuffer, BindBuffer, BufferSize, BufferBytes};
 ghost use Rattle.command_stream.specs.Commands.{Allowed, command_spelling, stream_start};
 
 use crate::operation::{Operation, STREAM_VERSION};
@@ -50,6 +50,15 @@ pub fn make_buffer(name: u32) -> [u8; 12]
     ensures { result ≡ command_spelling (MakeBuffer name) }
 {
     let op = Operation::MakeBuffer;
+    three_words(op.number(), op.field_bytes(), name)
+}
+
+/// The whole of a DropBuffer.
+#[tactic(auto, unfolding(gl_numbers::specs::Bytes::le32))]
+pub fn drop_buffer(name: u32) -> [u8; 12]
+    ensures { result ≡ command_spelling (DropBuffer name) }
+{
+    let op = Operation::DropBuffer;
     three_words(op.number(), op.field_bytes(), name)
 }
 

@@ -11,7 +11,8 @@ mod write;
 
 pub use command::Command;
 pub use operation::{
-    BIND_BUFFER, BODY_MAX, BUFFER_BYTES, BUFFER_SIZE, MAKE_BUFFER, Operation, STREAM_VERSION,
+    BIND_BUFFER, BODY_MAX, BUFFER_BYTES, BUFFER_SIZE, DROP_BUFFER, HEADER_BYTES, MAKE_BUFFER,
+    Operation, STREAM_VERSION,
 };
 pub use write::{write_command, write_start};
 

@@ -1,14 +1,19 @@
-ghost use Rattle.std.specs.Prelude.{◌≡◌};
-ghost use Rattle.command_stream.specs.Operations.{number_of, field_bytes_of};
+ghost use Rattle.std.specs.Prelude.{◌≡◌, IfSome};
+ghost use Rattle.command_stream.specs.Operations.{number_of, field_bytes_of, ends_in_bytes, operation_numbered, allows};
 
 /// The version that a stream's header names.
 pub const STREAM_VERSION: u32 = 1;
+
+/// The bytes of a command's header: its operation, and its body's length in bytes.
+pub const HEADER_BYTES: usize = 8;
 
 /// A command's body has at most this many bytes: 16 MiB of data, and 64 bytes for the words before them.
 pub const BODY_MAX: u32 = 16_777_280;
 
 /// The number of `Operation::MakeBuffer`.
 pub const MAKE_BUFFER: u32 = 1;
+/// The number of `Operation::DropBuffer`.
+pub const DROP_BUFFER: u32 = 6;
 /// The number of `Operation::BindBuffer`.
 pub const BIND_BUFFER: u32 = 11;
 /// The number of `Operation::BufferSize`.
@@ -21,6 +26,8 @@ pub const BUFFER_BYTES: u32 = 13;
 pub enum Operation {
     /// A buffer's name comes into use: one word, the name (OpenGL ES 2.0 section 2.9).
     MakeBuffer,
+    /// DeleteBuffers of one name: one word, the name (section 2.9).
+    DropBuffer,
     /// BindBuffer: two words, the target and the name, 0 for none (section 2.9).
     BindBuffer,
     /// BufferData of zero bytes: three words, the target, the usage and the size in bytes (section 2.9).
@@ -36,6 +43,7 @@ impl Operation {
     {
         match self {
             Operation::MakeBuffer => MAKE_BUFFER,
+            Operation::DropBuffer => DROP_BUFFER,
             Operation::BindBuffer => BIND_BUFFER,
             Operation::BufferSize => BUFFER_SIZE,
             Operation::BufferBytes => BUFFER_BYTES,
@@ -48,9 +56,48 @@ impl Operation {
     {
         match self {
             Operation::MakeBuffer => 4,
+            Operation::DropBuffer => 4,
             Operation::BindBuffer => 8,
             Operation::BufferSize => 12,
             Operation::BufferBytes => 8,
+        }
+    }
+
+    /// Whether bytes follow the words of the body.
+    pub fn has_bytes(self) -> bool
+        ensures { result ≡ ends_in_bytes self }
+    {
+        match self {
+            Operation::BufferBytes => true,
+            _ => false,
+        }
+    }
+
+    /// The operation of this number; None exactly where the table has none.
+    #[tactic(auto, unfolding(crate::specs::Operations::operation_numbered))]
+    pub fn from_u32(n: u32) -> Option<Self>
+        ensures found { result ≡ operation_numbered n }
+        ensures number { IfSome result (λ operation. number_of operation ≡ n) }
+    {
+        match n {
+            MAKE_BUFFER => Some(Operation::MakeBuffer),
+            DROP_BUFFER => Some(Operation::DropBuffer),
+            BIND_BUFFER => Some(Operation::BindBuffer),
+            BUFFER_SIZE => Some(Operation::BufferSize),
+            BUFFER_BYTES => Some(Operation::BufferBytes),
+            _ => None,
+        }
+    }
+
+    /// Whether a body of `len` bytes is one of this operation's: its words and nothing else, or its words and
+    /// then bytes, at most `BODY_MAX` in all.
+    pub fn allows(self, len: u32) -> bool
+        ensures { result ≡ allows self len }
+    {
+        if self.has_bytes() {
+            self.field_bytes() <= len && len <= BODY_MAX
+        } else {
+            len == self.field_bytes()
         }
     }
 }

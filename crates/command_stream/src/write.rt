@@ -4,7 +4,7 @@ ghost use Rattle.wire_io.specs.Sinks.{Sends};
 ghost use Rattle.command_stream.specs.Commands.{Allowed, command_spelling, stream_start};
 
 use crate::command::Command;
-use crate::fronts::{bind_buffer, buffer_bytes, buffer_size, make_buffer, start};
+use crate::fronts::{bind_buffer, buffer_bytes, buffer_size, drop_buffer, make_buffer, start};
 use wire_io::{Failed, Sink, write_all};
 
 /// Writes the stream's header; after Failed a front of it was appended.
@@ -24,6 +24,7 @@ pub fn write_command<S: Sink>(c: &Command<'_>, stream: &mut S) -> Result<(), Fai
 {
     match c {
         Command::MakeBuffer(name) => write_all(&make_buffer(*name), stream),
+        Command::DropBuffer(name) => write_all(&drop_buffer(*name), stream),
         Command::BindBuffer(target, name) => write_all(&bind_buffer(*target, *name), stream),
         Command::BufferSize(target, usage, size) => write_all(
             &buffer_size(*target, *usage, *size),

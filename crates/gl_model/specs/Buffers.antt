@@ -49,6 +49,18 @@ bind None name bindings = bindings
 bind (Some Array) name bindings = record bindings { array = name }
 bind (Some ElementArray) name bindings = record bindings { element_array = name }
 
+-- a name that a binding had is bound no longer
+abbrev pub unless_name : ℕ → Option ℕ → Option ℕ
+unless_name name None = None
+unless_name name (Some bound) = if bound == name then None else Some bound
+
+-- a name is bound to neither target
+abbrev pub unbind : ℕ → Bindings → Bindings
+unbind name bindings = record {
+  array = unless_name name bindings.array;
+  element_array = unless_name name bindings.element_array;
+}
+
 -- a name, where 0 is none
 abbrev pub non_zero : ℕ → Option ℕ
 non_zero name = if name == 0 then None else Some name

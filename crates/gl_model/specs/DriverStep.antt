@@ -7,9 +7,10 @@ use Rattle.gl_numbers.specs.declared.buffer_words.BufferTarget.{BufferTarget}
 use Rattle.gl_numbers.specs.declared.errors.GlError.{GlError}
 use Rattle.gl_numbers.specs.declared.errors.GlError.TheVariants.{Enum, Value, Operation}
 use Rattle.command_stream.specs.declared.command.Command.{Command}
-use Rattle.command_stream.specs.declared.command.Command.TheVariants.{MakeBuffer, BindBuffer, BufferSize, BufferBytes}
+use Rattle.command_stream.specs.declared.command.Command.TheVariants.{MakeBuffer, DropBuffer, BindBuffer, BufferSize, BufferBytes}
+use Rattle.gl_model.specs.declared.limits.TheConstants.{MOST_BYTES}
 use Rattle.gl_model.specs.Refusals.{Rule, when, first_refusal}
-use Rattle.gl_model.specs.Buffers.{Buffer, new_buffer, is_buffer_target, is_usage, bound_to, bind, non_zero, is_for_other_target, take_target, take_data, patch}
+use Rattle.gl_model.specs.Buffers.{Buffer, new_buffer, is_buffer_target, is_usage, bound_to, bind, unbind, non_zero, is_for_other_target, take_target, take_data, patch}
 use Rattle.gl_model.specs.DriverState.{DriverState, with_name, bound_buffer}
 use Rattle.gl_model.specs.Shot.{Shot}
 
@@ -17,10 +18,6 @@ use Rattle.gl_model.specs.Shot.{Shot}
 pub data Fault : Type 0 where
   gl_error : GlError → Fault
   outside_fetch : Fault
-
--- the most bytes that a buffer has
-abbrev pub most_bytes : ℕ
-most_bytes = 67108864
 
 -- the first target of the buffer that a name has
 abbrev pub first_target_of : Option Buffer → Option BufferTarget
@@ -35,6 +32,9 @@ abbrev pub rules : DriverState → Command → List Rule
 rules g (MakeBuffer name) =
     when (name == 0 || is_some (g.buffers name)) Operation
     ∷ []
+rules g (DropBuffer name) =
+    when (not (is_some (g.buffers name))) Operation
+    ∷ []
 rules g (BindBuffer target name) =
     when (not (is_buffer_target target)) Enum
     ∷ when (not (name == 0) && not (is_some (g.buffers name))) Operation
@@ -43,7 +43,7 @@ rules g (BindBuffer target name) =
 rules g (BufferSize target usage size) =
     when (not (is_buffer_target target)) Enum
     ∷ when (not (is_usage usage)) Enum
-    ∷ when (nat_lt most_bytes size) Value
+    ∷ when (nat_lt MOST_BYTES size) Value
     ∷ when (not (is_some (bound_to g.bound target))) Operation
     ∷ []
 rules g (BufferBytes target offset part) =
@@ -72,6 +72,7 @@ with_bound change g target =
 -- what a command does that isn't refused
 abbrev pub effect : DriverState → Command → DriverState
 effect g (MakeBuffer name) = record g { buffers = with_name g.buffers name (Some new_buffer) }
+effect g (DropBuffer name) = record { buffers = with_name g.buffers name None; bound = unbind name g.bound }
 effect g (BindBuffer target name) = record {
   buffers = with_name g.buffers name (option_map (take_target (buffer_target_of target)) (g.buffers name));
   bound = bind (buffer_target_of target) (non_zero name) g.bound;

@@ -14,7 +14,7 @@ use Rattle.call_records.specs.declared.calls.New.TheVariants as New
 use Rattle.call_records.specs.declared.calls.Fill.TheVariants.{Bytes}
 use Rattle.call_records.specs.Records.{Fits}
 use Rattle.command_stream.specs.declared.command.Command.{Command}
-use Rattle.command_stream.specs.declared.command.Command.TheVariants.{MakeBuffer, BindBuffer, BufferSize, BufferBytes}
+use Rattle.command_stream.specs.declared.command.Command.TheVariants.{MakeBuffer, DropBuffer, BindBuffer, BufferSize, BufferBytes}
 use Rattle.command_stream.specs.Commands.{stream}
 use Rattle.command_stream.specs.Plain as Plain
 use Rattle.command_stream.specs.Plain.{plain}
@@ -139,12 +139,14 @@ fits-all w (t ∷ taken) b fits =
 -- where a command's bytes lie means nothing to the driver
 pub plain-rules : (g : DriverState) (command : Command) → Driver.rules g (plain command) ≡ Driver.rules g command
 plain-rules g (MakeBuffer name) = refl
+plain-rules g (DropBuffer name) = refl
 plain-rules g (BindBuffer target name) = refl
 plain-rules g (BufferSize target usage size) = refl
 plain-rules g (BufferBytes target offset part) = refl
 
 pub plain-effect : (g : DriverState) (command : Command) → Driver.effect g (plain command) ≡ Driver.effect g command
 plain-effect g (MakeBuffer name) = refl
+plain-effect g (DropBuffer name) = refl
 plain-effect g (BindBuffer target name) = refl
 plain-effect g (BufferSize target usage size) = refl
 plain-effect g (BufferBytes target offset part) = refl
