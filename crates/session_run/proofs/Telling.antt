@@ -13,7 +13,9 @@ use Rattle.gl_model.specs.PageState.{PageState, first_page, buffer_at}
 use Rattle.gl_model.specs.DriverState.{first_driver}
 use Rattle.gl_model.specs.Replay.{Replayed}
 use Rattle.session_run.specs.PageRun.{Taken, step_taken, replies}
-use Rattle.session_run.specs.Sent.{all_sent}
+use Rattle.gl_numbers.specs.declared.errors.GlError.{GlError}
+use Rattle.session_run.specs.PageStep.{refusal, step_judged}
+use Rattle.session_run.specs.Sent.{all_sent, sent_judged, RefusedInVain, RefusalsChangeNothing}
 use Rattle.session_run.specs.Stands.{Agrees}
 use Rattle.session_run.specs.Sessions.{records_of, answered_by, sent_by, AreTaken, ReadWhole, ReadRefused, ReadSome, RunsRecords}
 use Rattle.session_run.specs.Outcomes.{Served, Did, WhereAllTold}
@@ -72,6 +74,19 @@ unfolding replies
 one-each w [] = refl
 one-each w (t ∷ taken) = ap suc (one-each (step_taken w t).page taken)
 
+-- a refused call changes an error flag alone, and sends nothing
+pub refused-in-vain : (w : PageState) (t : Taken) (error : GlError) → refusal w t.call ≡ Some error → RefusedInVain w t error
+refused-in-vain w t error e = record {
+  page = ap (λ (r : Option GlError). (step_judged w t.call t.want r).page) e;
+  commands = ap (sent_judged w t.call t.want) e;
+}
+
+-- so does each of them
+pub refusals-change-nothing : (w : PageState) (taken : List Taken) → RefusalsChangeNothing w taken
+unfolding RefusalsChangeNothing
+refusals-change-nothing w [] = tt
+refusals-change-nothing w (t ∷ taken) = (refused-in-vain w t, refusals-change-nothing (step_taken w t).page taken)
+
 -- calls that were answered and whose commands were sent were served
 pub served : (taken : List Taken) (answered sends : List ℕ) → AreTaken taken → answered ≡ answered_by taken → sends ≡ stream (all_sent first_page taken)
     → Served taken answered sends
@@ -82,6 +97,7 @@ served taken answered sends are a s =
       are = are;
       replied = a;
       one_each = one-each first_page taken;
+      refusals = refusals-change-nothing first_page taken;
       sent_exactly = s;
       faultless = ap (λ (r : Replayed). r.fault) follows.replayed;
       drawn = ap (λ (r : Replayed). r.shots) follows.replayed;

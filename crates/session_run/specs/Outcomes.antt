@@ -16,7 +16,7 @@ use Rattle.gl_model.specs.PageState.{first_page}
 use Rattle.gl_model.specs.DriverState.{first_driver}
 use Rattle.gl_model.specs.Replay.{replay}
 use Rattle.session_run.specs.PageRun.{Taken, replies, shots, WantsAllowed}
-use Rattle.session_run.specs.Sent.{all_sent}
+use Rattle.session_run.specs.Sent.{all_sent, RefusalsChangeNothing}
 use Rattle.session_run.specs.Sessions.{records_of, answered_by, AreTaken}
 use Rattle.session_run.specs.declared.session.RunEnd.{RunEnd}
 use Rattle.session_run.specs.declared.session.RunEnd.TheVariants.{Read, Write}
@@ -27,12 +27,14 @@ ReplaysTo bytes made =
     (commands : List Command) → All Commands.Fits commands → bytes ≡ stream commands
     → ((replay first_driver commands).fault ≡ None) × ((replay first_driver commands).shots ≡ made)
 
--- these calls were answered, each by one reply that is the page machine's; what was sent are whole commands, and the
--- driver's machine takes them without a fault and makes exactly the calls' Shots
+-- these calls were answered, each by one reply that is the page machine's, where a refused call changed nothing but an error
+-- flag; what was sent are whole commands, and the driver's machine takes them without a fault and makes exactly the calls'
+-- Shots
 pub record Served (taken : List Taken) (answered sends : List ℕ) : Type 0 where
   pub are : AreTaken taken
   pub replied : answered ≡ answered_by taken
   pub one_each : length (replies first_page taken) ≡ length taken
+  pub refusals : RefusalsChangeNothing first_page taken
   pub sent_exactly : sends ≡ stream (all_sent first_page taken)
   pub faultless : (replay first_driver (all_sent first_page taken)).fault ≡ None
   pub drawn : (replay first_driver (all_sent first_page taken)).shots ≡ shots first_page taken

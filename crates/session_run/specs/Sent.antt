@@ -1,11 +1,12 @@
 -- The commands that each call sends to the driver.
-use Rattle.std.specs.Prelude.{ℕ, ◌+◌, Bool, true, false, Option, Some, None, List, [], ◌∷◌, ◌++◌, length, ◌==◌, if◌then◌else◌}
+use Rattle.std.specs.Prelude.{◌≡◌, ℕ, ◌+◌, Bool, true, false, Option, Some, None, List, [], ◌∷◌, ◌++◌, length, ◌==◌, if◌then◌else◌}
 use Rattle.gl_numbers.specs.declared.errors.GlError.{GlError}
 use Rattle.call_records.specs.declared.calls.Call.{Call}
 use Rattle.call_records.specs.declared.calls.New.TheVariants.{Buffer}
 use Rattle.call_records.specs.declared.calls.Fill.TheVariants.{Bytes}
 use Rattle.command_stream.specs.declared.command.Command.{Command}
 use Rattle.command_stream.specs.declared.command.Command.TheVariants.{MakeBuffer, BindBuffer, BufferSize, BufferBytes}
+use Rattle.gl_model.specs.Errors.{raise}
 use Rattle.gl_model.specs.PageState.{PageState}
 use Rattle.session_run.specs.BufferRecords.{next_handle}
 use Rattle.session_run.specs.PageStep.{refusal}
@@ -41,3 +42,14 @@ sent w call want = sent_judged w call want (refusal w call)
 unfoldable pub all_sent : PageState → List Taken → List Command
 all_sent w [] = []
 all_sent w (t ∷ ts) = sent w t.call t.want ++ all_sent (step_taken w t).page ts
+
+-- a call that is refused changes the error flags alone, and sends nothing
+pub record RefusedInVain (w : PageState) (t : Taken) (error : GlError) : Type 0 where
+  pub page : (step_taken w t).page ≡ record w { errors = raise error w.errors }
+  pub commands : sent w t.call t.want ≡ []
+
+-- so does each call that is refused among those that were taken
+unfoldable pub RefusalsChangeNothing : PageState → List Taken → Type 0
+RefusalsChangeNothing w [] = Unit {0}
+RefusalsChangeNothing w (t ∷ ts) =
+    ((error : GlError) → refusal w t.call ≡ Some error → RefusedInVain w t error) × RefusalsChangeNothing (step_taken w t).page ts
