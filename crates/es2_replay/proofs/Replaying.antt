@@ -1,10 +1,10 @@
 -- Commands that are applied one after another are replayed in order.
-use Rattle.std.proofs.Common.{◌≡◌, ℕ, ◌+◌, Option, Some, None, Ok, List, [], ◌∷◌, ◌++◌, length, refl, sym, ap, ◌∙◌, arith, length-append, append-nil}
+use Rattle.std.proofs.Common.{◌≡◌, ◌+◌, Option, Some, None, Ok, List, [], ◌∷◌, ◌++◌, length, refl, sym, ap, ◌∙◌, arith, length-append, append-nil}
 use Rattle.std.specs.Option.{option_to_list}
 use Rattle.command_stream.specs.declared.command.Command.{Command}
 use Rattle.gl_model.specs.DriverState.{DriverState}
 use Rattle.gl_model.specs.DriverStep.{Fault, effect, shot}
-use Rattle.gl_model.specs.Replay.{Replayed, replay, clean, ended, after, fault_of}
+use Rattle.gl_model.specs.Replay.{replay, clean, ended, after, fault_of}
 use Rattle.gl_model.specs.Shot as Model
 use Rattle.gl_model.proofs.Replaying.{resumed, replay-append}
 use Rattle.es2_replay.specs.declared.faults.Shot.{Shot}
