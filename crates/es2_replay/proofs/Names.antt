@@ -1,6 +1,5 @@
 -- Objects by name, where one name's object is changed.
 use Rattle.std.proofs.Common.{◌≡◌, ℕ, Option, refl, ap, inl, inr}
-use Rattle.std.specs.Prelude.{◌==◌, if◌then◌else◌}
 use Rattle.std.specs.Option.{option_map}
 use Rattle.std.proofs.lemmas.Bool.Decides.{eqb_tells}
 use Rattle.gl_model.specs.DriverState.{with_name}

@@ -1,5 +1,5 @@
 -- What the machine answers to a command.
-use Rattle.std.specs.Prelude.{◌≡◌, ℕ, Bool, true, false, Option, Some, None, Result, Ok, Err, IsTrue}
+use Rattle.std.specs.Prelude.{◌≡◌, Bool, true, false, Option, Some, None, Result, Ok, Err, IsTrue}
 use Rattle.std.specs.Option.{option_map}
 use Rattle.gl_numbers.specs.Errors.{code_of}
 use Rattle.gl_numbers.specs.declared.errors.GlError.{GlError}

@@ -165,7 +165,9 @@ impl Machine {
             Command::DropBuffer(name) => self.drop_refusal(*name),
             Command::BindBuffer(target, name) => self.bind_refusal(*target, *name),
             Command::BufferSize(target, usage, size) => self.size_refusal(*target, *usage, *size),
-            Command::BufferBytes(target, offset, part) => self.bytes_refusal(*target, *offset, part),
+            Command::BufferBytes(target, offset, part) => self.bytes_refusal(
+                *target, *offset, part,
+            ),
         }
     }
 
@@ -288,3 +290,6 @@ impl Machine {
         Ok(None)
     }
 }
+
+#[cfg(test)]
+mod tests;
