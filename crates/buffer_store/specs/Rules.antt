@@ -1,12 +1,12 @@
 -- What each call refuses, and what it does where it refuses nothing (OpenGL ES 2.0 section 2.9, WebGL 1.0
 -- sections 5.14.5 and 6.1).
-use Rattle.std.specs.Prelude.{◌≡◌, ℕ, ℤ, pos, negsuc, ◌+◌, nat_lt, if◌then◌else◌, Option, Some, None, Result, Ok, Err, ◌⊎◌, List, length}
+use Rattle.std.specs.Prelude.{◌≡◌, ℕ, ℤ, pos, negsuc, ◌+◌, nat_lt, if◌then◌else◌, Option, Some, None, Result, Ok, Err, List, length}
 use Rattle.std.specs.FinMap.{remove}
 use Rattle.gl_numbers.specs.declared.buffer_words.BufferTarget.{BufferTarget}
 use Rattle.gl_numbers.specs.declared.buffer_words.BufferTarget.TheVariants.{Array, ElementArray}
 use Rattle.gl_numbers.specs.declared.buffer_words.Usage.{Usage}
 use Rattle.gl_numbers.specs.declared.errors.GlError.{GlError}
-use Rattle.gl_numbers.specs.declared.errors.GlError.TheVariants.{Enum, Value, Operation, Memory, Framebuffer}
+use Rattle.gl_numbers.specs.declared.errors.GlError.TheVariants.{Value, Operation, Memory}
 use Rattle.buffer_store.specs.declared.content.Content.{Content}
 use Rattle.buffer_store.specs.declared.content.TheConstants.{BUFFER_BYTES}
 use Rattle.buffer_store.specs.Content.{size_of, buffer_of}
