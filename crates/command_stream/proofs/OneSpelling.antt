@@ -1,5 +1,5 @@
 -- A stream's bytes are those of one list of commands.
-use Rattle.std.proofs.Common.{◌≡◌, ℕ, ◌+◌, ◌<◌, ◌≤◌, ◌^◌, List, [], ◌∷◌, ◌++◌, length, take, drop, map, refl, sym, ap, ◌∙◌, arith, lit<, append_assoc, eqb, if◌then◌else◌}
+use Rattle.std.proofs.Common.{◌≡◌, ℕ, ◌<◌, ◌^◌, List, [], ◌∷◌, ◌++◌, length, take, drop, map, refl, sym, ap, ◌∙◌, arith, lit<, append_assoc, eqb, if◌then◌else◌}
 use Rattle.std.proofs.lemmas.List.{append_cancel_left}
 use Rattle.std.proofs.lemmas.List.Elements.{All-head, All-tail}
 use Rattle.std.proofs.Math.Seq.{take-append_seam, drop-append_seam}
@@ -7,8 +7,8 @@ use Rattle.std.proofs.lemmas.Nat.{from_le_bytes-to_le_bytes_4}
 use Rattle.std.specs.Int.{from_le_bytes, w32}
 use Rattle.std.specs.List.{All, flat_map}
 use Rattle.gl_numbers.specs.Bytes.{le32}
-use Rattle.gl_numbers.proofs.Bytes.{Same, le32-one, drop-le32, take-le32}
-use Rattle.command_stream.specs.declared.operation.TheConstants.{MAKE_BUFFER, BIND_BUFFER, BUFFER_SIZE, BODY_MAX}
+use Rattle.gl_numbers.proofs.Bytes.{Same, le32-one, drop-le32}
+use Rattle.command_stream.specs.declared.operation.TheConstants.{MAKE_BUFFER, BIND_BUFFER, BUFFER_SIZE}
 use Rattle.command_stream.specs.declared.command.Command.{Command}
 use Rattle.command_stream.specs.declared.command.Command.TheVariants.{MakeBuffer, BindBuffer, BufferSize, BufferBytes}
 use Rattle.command_stream.specs.Commands.{op_of, body_of, command_spelling, stream_start, stream}

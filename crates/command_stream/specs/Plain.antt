@@ -1,5 +1,5 @@
 -- What tells one command from another: its operation, its words and its bytes, and not where the bytes lie.
-use Rattle.std.specs.Prelude.{ℕ, ◌<◌, ◌^◌, List}
+use Rattle.std.specs.Prelude.{◌<◌, ◌^◌}
 use Rattle.command_stream.specs.declared.command.Command.{Command}
 use Rattle.command_stream.specs.declared.command.Command.TheVariants.{MakeBuffer, BindBuffer, BufferSize, BufferBytes}
 use Rattle.command_stream.specs.Commands.{Allowed}

@@ -1,12 +1,17 @@
 -- A buffer between the program and a reader or a writer: no byte is lost, sent twice or moved past another.
 use Rattle.std.specs.Prelude.{Bool, ◌≡◌, ℕ, ◌<◌, ◌≤◌, List, [], ◌++◌, min, length, take, Option, Some, None, ⊤, Result, Ok, Err}
 use Rattle.std.specs.Io.KnownBytes.{IsAtEnd}
+use Rattle.wire_io.specs.declared.buffer.TheConstants.{CAPACITY}
 
 -- the bytes that wait, the room behind them, and the number of faults
 pub record BufferState : Type 0 where
   pub waiting : List ℕ
   pub room : ℕ
   pub faults : ℕ
+
+-- nothing waits, and there was no fault
+abbrev pub empty_buffer : BufferState
+empty_buffer = record { waiting = []; room = CAPACITY; faults = 0 }
 
 -- where a reader tells what is left: what waited, and then what was left, is what was given, what waits and what is left
 abbrev pub Gives : Option (List ℕ) → Option (List ℕ) → List ℕ → List ℕ → List ℕ → Type 0
@@ -41,7 +46,7 @@ GivesWaiting old new result piece =
 -- where there is room, a piece shorter than the whole room waits, as much of it as fits, and nothing is written
 abbrev pub KeepsShort : {E : Type 0} → BufferState → BufferState → Result ℕ E → List ℕ → Type 0
 KeepsShort old new result piece =
-    0 < old.room → length piece < 65536 → (result ≡ Ok (min (length piece) old.room))
+    0 < old.room → length piece < CAPACITY → (result ≡ Ok (min (length piece) old.room))
     × (new.waiting ≡ old.waiting ++ take old.room piece)
 
 -- a file's sink: the file's path, whether it is open, and the buffer before it

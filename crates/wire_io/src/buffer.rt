@@ -1,7 +1,7 @@
 ghost use Rattle.std.specs.Prelude.{◌≡◌, ◌+◌, ◌-◌, ◌^◌, ◌<◌, ◌≤◌, ◌↔◌, [], ◌++◌, min, length, take, drop, OnOk, OnErr};
 ghost use Rattle.std.specs.Io.KnownBytes.{IsAtEnd};
 ghost use Rattle.wire_io.specs.Faults.{CountsErrors, HasCause};
-ghost use Rattle.wire_io.specs.Buffers.{BufferState, Gives, GivesWaiting, KeepsShort, Passes, ReadsThrough, WritesThrough};
+ghost use Rattle.wire_io.specs.Buffers.{BufferState, empty_buffer, Gives, GivesWaiting, KeepsShort, Passes, ReadsThrough, WritesThrough};
 
 use crate::copies::{copy_front, copy_rest};
 use crate::status::Failed;
@@ -23,14 +23,15 @@ pub struct Buffer {
 
 impl Model for Buffer {
     ghost use Rattle.wire_io.specs.Buffers.{BufferState};
+    ghost use Rattle.wire_io.specs.declared.buffer.TheConstants.{CAPACITY};
 
     ghost Value = { BufferState };
 
     ghost use Rattle.std.specs.Prelude.{◌-◌, ◌≤◌, take, drop};
 
-    ghost view = { λ b. record { waiting = drop b.start (take b.end b.bytes); room = 65536 - b.end; faults = b.faults } };
+    ghost view = { λ b. record { waiting = drop b.start (take b.end b.bytes); room = CAPACITY - b.end; faults = b.faults } };
 
-    ghost invariant = { λ b. (b.start ≤ b.end) × (b.end ≤ 65536) };
+    ghost invariant = { λ b. (b.start ≤ b.end) × (b.end ≤ CAPACITY) };
 }
 
 /// Copies as many bytes of the piece as fit behind the first `end`, and answers how many.
@@ -64,7 +65,7 @@ fn write_out<W: Write>(bytes: &[u8], start: &mut usize, out: &mut W) -> Result<(
 impl Buffer {
     /// An empty buffer without a fault.
     pub fn new() -> Self
-        ensures { result ≡ record { waiting = []; room = 65536; faults = 0 } }
+        ensures { result ≡ empty_buffer }
     {
         Buffer {
             bytes: [0; CAPACITY],
@@ -133,7 +134,7 @@ impl Buffer {
 
     /// Writes all that waits; what a fault leaves unwritten still waits.
     fn drain<W: Write>(&mut self, out: &mut W) -> Result<(), Failed>
-        ensures whole { OnOk result ((self.new.waiting ≡ []) × (self.new.room ≡ 65536)) }
+        ensures whole { OnOk result ((self.new.waiting ≡ []) × (self.new.room ≡ CAPACITY)) }
         ensures content { Passes (W.contents out.old) (W.contents out.new) self.old.waiting [] self.new.waiting }
         ensures cause { HasCause self.old.faults self.new.faults result }
         ensures counted { CountsErrors self.old.faults self.new.faults result }

@@ -1,7 +1,7 @@
 ghost use Rattle.std.specs.Prelude.{◌≡◌, ℕ, ◌<◌, List, [], Option, None, Ok, length, false, true, IsSome, OnOk};
 ghost use Rattle.wire_io.specs.Faults.{CountsErrors, HasCause};
 ghost use Rattle.wire_io.specs.Sinks.{Writes};
-ghost use Rattle.wire_io.specs.Buffers.{BufferState, LazyState, KeepsShort};
+ghost use Rattle.wire_io.specs.Buffers.{KeepsShort, empty_buffer};
 
 use crate::buffer::Buffer;
 use crate::sink::Sink;
@@ -35,7 +35,7 @@ impl<'a, R: Files + Drop> Model for LazyFile<'a, R> {
 impl<'a, R: Files + Drop> LazyFile<'a, R> {
     /// A sink over the file of this path, which isn't touched yet, without a fault.
     pub fn new(files: R, path: &'a str) -> Self
-        ensures { result ≡ record { path = path.now; is_open = false; behind = record { waiting = []; room = 65536; faults = 0 } } }
+        ensures { result ≡ record { path = path.now; is_open = false; behind = empty_buffer } }
     {
         LazyFile {
             files,

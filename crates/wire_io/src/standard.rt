@@ -2,7 +2,7 @@ ghost use Rattle.std.specs.Prelude.{◌≡◌, ℕ, List, [], Option, None, OnOk
 ghost use Rattle.wire_io.specs.Faults.{CountsErrors, HasCause};
 ghost use Rattle.wire_io.specs.Sources.{Reads};
 ghost use Rattle.wire_io.specs.Sinks.{Writes};
-ghost use Rattle.wire_io.specs.Buffers.{BufferState, GivesWaiting, KeepsShort};
+ghost use Rattle.wire_io.specs.Buffers.{GivesWaiting, KeepsShort, empty_buffer};
 
 use crate::buffer::Buffer;
 use crate::sink::Sink;
@@ -31,7 +31,7 @@ impl Model for StdSource {
 impl StdSource {
     /// A source over standard input, without a fault.
     pub fn new(input: Stdin) -> Self
-        ensures { result ≡ record { waiting = []; room = 65536; faults = 0 } }
+        ensures { result ≡ empty_buffer }
     {
         StdSource {
             input,
@@ -76,7 +76,7 @@ impl Model for StdSink {
 impl StdSink {
     /// A sink over standard output, without a fault.
     pub fn new(output: Stdout) -> Self
-        ensures { result ≡ record { waiting = []; room = 65536; faults = 0 } }
+        ensures { result ≡ empty_buffer }
     {
         StdSink {
             output,

@@ -1,0 +1,9 @@
+pub mod Counts
+pub mod Longest
+pub mod LongestNumber
+pub mod LongestToken
+pub mod Values
+pub mod Fronts
+pub mod WithoutComments
+pub mod Reading
+pub mod Definition
