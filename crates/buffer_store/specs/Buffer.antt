@@ -9,14 +9,14 @@ use Rattle.buffer_store.specs.declared.content.TheConstants.{BUFFER_BYTES}
 
 -- the target that it was first bound to, its size and usage, and the bytes that are kept of it
 pub record Buffer : Type 0 where
-  pub first : Option BufferTarget
+  pub first_target : Option BufferTarget
   pub size : ℕ
   pub usage : Usage
   pub bytes : List ℕ
 
 -- a buffer that was just made
 abbrev pub new_buffer : Buffer
-new_buffer = record { first = None; size = 0; usage = StaticDraw; bytes = [] }
+new_buffer = record { first_target = None; size = 0; usage = StaticDraw; bytes = [] }
 
 -- what is kept of the bytes of a buffer of this target
 abbrev pub kept : BufferTarget → List ℕ → List ℕ
@@ -33,11 +33,11 @@ is_of_other ElementArray (Some ElementArray) = false
 
 -- the bytes from `at` on are these
 abbrev pub put_bytes : ℕ → List ℕ → List ℕ → List ℕ
-put_bytes at bytes old = take at old ++ bytes ++ drop (at + length bytes) old
+put_bytes at bytes old = take at old ++ (bytes ++ drop (at + length bytes) old)
 
 -- the same buffer, first bound to this target
 abbrev pub with_first : BufferTarget → Buffer → Buffer
-with_first t b = record b { first = Some t }
+with_first t b = record b { first_target = Some t }
 
 -- the same buffer with these bytes from `at` on
 abbrev pub with_bytes : ℕ → List ℕ → Buffer → Buffer
@@ -45,7 +45,7 @@ with_bytes at bytes b = record b { bytes = put_bytes at bytes b.bytes }
 
 -- an element buffer whose bytes reach `end`
 pub record IsIndexed (end : ℕ) (b : Buffer) : Type 0 where
-  pub first : b.first ≡ Some ElementArray
+  pub first : b.first_target ≡ Some ElementArray
   pub within : end ≤ b.size
 
 -- a buffer that was never bound has no bytes, and all bytes of an element buffer are kept
@@ -57,7 +57,7 @@ KeepsBytes (Some ElementArray) size bytes = length bytes ≡ size
 -- what each buffer keeps true
 pub record IsSound (b : Buffer) : Type 0 where
   pub within : b.size ≤ BUFFER_BYTES
-  pub kept_bytes : KeepsBytes b.first b.size b.bytes
+  pub kept_bytes : KeepsBytes b.first_target b.size b.bytes
 
 -- the word of a usage
 abbrev pub word_of : Usage → ℕ

@@ -42,13 +42,13 @@ usage_code = code_by ℕ coded_ℕ number_of_usage usage_of_number usage_again
 
 abbrev pub buffer_code : Coded Buffer
 buffer_code =
-    code_by (Option BufferTarget × (ℕ × (Usage × List ℕ))) (coded× (coded_option target_code) (coded× coded_ℕ (coded× usage_code (coded_list coded_ℕ)))) (λ b. (b.first, (b.size, (b.usage, b.bytes))))
-    (λ p. record { first = p.0; size = p.1.0; usage = p.1.1.0; bytes = p.1.1.1 }) (λ _. refl)
+    code_by (Option BufferTarget × (ℕ × (Usage × List ℕ))) (coded× (coded_option target_code) (coded× coded_ℕ (coded× usage_code (coded_list coded_ℕ)))) (λ b. (b.first_target, (b.size, (b.usage, b.bytes))))
+    (λ p. record { first_target = p.0; size = p.1.0; usage = p.1.1.0; bytes = p.1.1.1 }) (λ _. refl)
 
 abbrev pub shelf_code : Coded Shelf
 shelf_code = code {R = nat_cmp} coded_ℕ buffer_code
 
 abbrev pub stored_code : Coded Stored
 stored_code =
-    code_by (Shelf × (Option ℕ × Option ℕ)) (coded× shelf_code (coded× (coded_option coded_ℕ) (coded_option coded_ℕ))) (λ s. (s.buffers, (s.array, s.element)))
-    (λ p. record { buffers = p.0; array = p.1.0; element = p.1.1 }) (λ _. refl)
+    code_by (Shelf × (Option ℕ × Option ℕ)) (coded× shelf_code (coded× (coded_option coded_ℕ) (coded_option coded_ℕ))) (λ s. (s.buffers, (s.array, s.element_array)))
+    (λ p. record { buffers = p.0; array = p.1.0; element_array = p.1.1 }) (λ _. refl)

@@ -24,4 +24,4 @@ HasShortBytes (Bytes bytes) = length bytes.now ≤ BUFFER_BYTES
 
 -- a buffer of this target that bufferData gave this content and usage
 abbrev pub buffer_of : BufferTarget → Content → Usage → Buffer
-buffer_of t content usage = record { first = Some t; size = size_of content; usage = usage; bytes = kept t (bytes_of content) }
+buffer_of t content usage = record { first_target = Some t; size = size_of content; usage = usage; bytes = kept t (bytes_of content) }

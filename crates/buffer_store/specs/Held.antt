@@ -8,6 +8,6 @@ use Rattle.buffer_store.specs.Buffer.{Buffer}
 
 -- the buffer that is kept so
 abbrev pub shown : Kept → Usage → Buffer
-shown Unbound usage = record { first = None; size = 0; usage = usage; bytes = [] }
-shown (Vertices size) usage = record { first = Some Array; size = size; usage = usage; bytes = [] }
-shown (Indices bytes) usage = record { first = Some ElementArray; size = length bytes.items; usage = usage; bytes = bytes.items }
+shown Unbound usage = record { first_target = None; size = 0; usage = usage; bytes = [] }
+shown (Vertices size) usage = record { first_target = Some Array; size = size; usage = usage; bytes = [] }
+shown (Indices bytes) usage = record { first_target = Some ElementArray; size = length bytes.items; usage = usage; bytes = bytes.items }

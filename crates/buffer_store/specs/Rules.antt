@@ -1,12 +1,12 @@
 -- What each call refuses, and what it does where it refuses nothing (OpenGL ES 2.0 section 2.9, WebGL 1.0
 -- sections 5.14.5 and 6.1).
-use Rattle.std.specs.Prelude.{◌≡◌, ℕ, ℤ, pos, negsuc, ◌+◌, nat_lt, if◌then◌else◌, Option, Some, None, Result, Ok, Err, ◌⊎◌, List, length}
+use Rattle.std.specs.Prelude.{◌≡◌, ℕ, ℤ, pos, negsuc, ◌+◌, nat_lt, if◌then◌else◌, Option, Some, None, Result, Ok, Err, List, length}
 use Rattle.std.specs.FinMap.{remove}
 use Rattle.gl_numbers.specs.declared.buffer_words.BufferTarget.{BufferTarget}
 use Rattle.gl_numbers.specs.declared.buffer_words.BufferTarget.TheVariants.{Array, ElementArray}
 use Rattle.gl_numbers.specs.declared.buffer_words.Usage.{Usage}
 use Rattle.gl_numbers.specs.declared.errors.GlError.{GlError}
-use Rattle.gl_numbers.specs.declared.errors.GlError.TheVariants.{Enum, Value, Operation, Memory, Framebuffer}
+use Rattle.gl_numbers.specs.declared.errors.GlError.TheVariants.{Value, Operation, Memory}
 use Rattle.buffer_store.specs.declared.content.Content.{Content}
 use Rattle.buffer_store.specs.declared.content.TheConstants.{BUFFER_BYTES}
 use Rattle.buffer_store.specs.Content.{size_of, buffer_of}
@@ -27,7 +27,7 @@ AnswersOrWants t refusal (Err e) = refusal ≡ Some e
 -- a buffer stays with the target that it was first bound to
 abbrev pub refused_of : BufferTarget → Option Buffer → Option GlError
 refused_of t None = None
-refused_of t (Some b) = if is_of_other t b.first then Some Operation else None
+refused_of t (Some b) = if is_of_other t b.first_target then Some Operation else None
 
 -- bindBuffer: the buffer was bound to the other target
 abbrev pub bind_refusal : Stored → BufferTarget → Option ℕ → Option GlError
@@ -64,8 +64,8 @@ sub_data_refusal s t (pos at) bytes = refused_past (at + length bytes) (bound_bu
 abbrev pub patched : Stored → BufferTarget → ℤ → List ℕ → Stored
 patched s Array offset bytes = s
 patched s ElementArray (negsuc n) bytes = s
-patched s ElementArray (pos at) bytes = record s { buffers = changed s.buffers s.element (with_bytes at bytes) }
+patched s ElementArray (pos at) bytes = record s { buffers = changed s.buffers s.element_array (with_bytes at bytes) }
 
 -- deleteBuffer: the buffer is gone, and nothing is bound to it
 abbrev pub without_buffer : Stored → ℕ → Stored
-without_buffer s h = record { buffers = remove s.buffers h; array = without h s.array; element = without h s.element }
+without_buffer s h = record { buffers = remove s.buffers h; array = without h s.array; element_array = without h s.element_array }

@@ -21,7 +21,7 @@ use step_count::Bytes;
 pub struct Buffers {
     buffers: ByHandle,
     array: Option<Handle>,
-    element: Option<Handle>,
+    element_array: Option<Handle>,
     alloc: Global,
 }
 
@@ -33,9 +33,9 @@ impl Model for Buffers {
 
     ghost coded = { stored_code };
 
-    ghost view = { λ a. record { buffers = a.buffers; array = a.array; element = a.element } };
+    ghost view = { λ a. record { buffers = a.buffers; array = a.array; element_array = a.element_array } };
 
-    ghost invariant = { λ a. AreBoundFirst (record { buffers = a.buffers; array = a.array; element = a.element }) };
+    ghost invariant = { λ a. AreBoundFirst (record { buffers = a.buffers; array = a.array; element_array = a.element_array }) };
 }
 
 impl Buffers {
@@ -46,7 +46,7 @@ impl Buffers {
         Buffers {
             buffers: ByHandle::new(alloc),
             array: None,
-            element: None,
+            element_array: None,
             alloc,
         }
     }
@@ -76,7 +76,7 @@ impl Buffers {
         }
         match target {
             BufferTarget::Array => self.array = h,
-            BufferTarget::ElementArray => self.element = h,
+            BufferTarget::ElementArray => self.element_array = h,
         }
         Ok(())
     }
@@ -144,7 +144,7 @@ impl Buffers {
     {
         match target {
             BufferTarget::Array => self.array,
-            BufferTarget::ElementArray => self.element,
+            BufferTarget::ElementArray => self.element_array,
         }
     }
 
@@ -190,7 +190,7 @@ impl Buffers {
     {
         self.buffers.remove(h);
         reset(&mut self.array, h);
-        reset(&mut self.element, h);
+        reset(&mut self.element_array, h);
     }
 }
 

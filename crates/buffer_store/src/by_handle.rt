@@ -63,7 +63,7 @@ impl ByHandle {
     /// Puts another buffer of the same target in the place of the one of this handle.
     pub(crate) fn replace(&mut self, target: BufferTarget, h: Handle, held: Held)
         requires old { IsOf target (get self.old h) }
-        requires new { held.first ≡ Some target }
+        requires new { held.first_target ≡ Some target }
         ensures value { self.new ≡ insert self.old h held }
         ensures firsts { KeepsFirst self.old self.new }
     {
@@ -95,7 +95,7 @@ impl ByHandle {
         ensures firsts { KeepsFirst self.old self.new }
         ensures claimed { OnOk result (IsOf target (get self.new h)) }
     {
-        let first = self.first(h);
+        let first = self.first_target(h);
         match (first, target) {
             (None, _) => {
                 self.take_target(alloc, h, target);
@@ -108,19 +108,19 @@ impl ByHandle {
     }
 
     /// The target that the buffer of this handle was first bound to.
-    fn first(&self, h: Handle) -> Option<BufferTarget>
+    fn first_target(&self, h: Handle) -> Option<BufferTarget>
         requires { IsSome (get self.now h) }
-        ensures { IfSome (get self.now h) (λ b. result ≡ b.first) }
+        ensures { IfSome (get self.now h) (λ b. result ≡ b.first_target) }
     {
         match self.get(h) {
-            Some(held) => held.first(),
+            Some(held) => held.first_target(),
             None => unreachable!(),
         }
     }
 
     /// Makes a buffer that was never bound one of this target.
     fn take_target(&mut self, alloc: Global, h: Handle, target: BufferTarget)
-        requires { IsSomeAnd (get self.old h) (λ b. b.first ≡ None) }
+        requires { IsSomeAnd (get self.old h) (λ b. b.first_target ≡ None) }
         ensures { self.new ≡ changed_at self.old h (with_first target) (get self.old h) }
     {
         if let Some(held) = self.held.get_mut(&h) {

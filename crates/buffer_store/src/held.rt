@@ -76,8 +76,8 @@ impl Held {
     }
 
     /// The target that it was first bound to.
-    pub(crate) fn first(&self) -> Option<BufferTarget>
-        ensures value { result ≡ self.now.first }
+    pub(crate) fn first_target(&self) -> Option<BufferTarget>
+        ensures value { result ≡ self.now.first_target }
         ensures sound { IsSound self.now }
     {
         match &self.kept {
@@ -112,7 +112,7 @@ impl Held {
 
     /// The bytes of an element buffer.
     pub(crate) fn indices(&self) -> Bytes<'_>
-        requires { self.now.first ≡ Some ElementArray }
+        requires { self.now.first_target ≡ Some ElementArray }
         ensures value { content result ≡ self.now.bytes }
         ensures sound { IsSound self.now }
     {
@@ -124,7 +124,7 @@ impl Held {
 
     /// Makes it a buffer of this target, as the first binding does.
     pub(crate) fn take_target(&mut self, alloc: Global, target: BufferTarget)
-        requires { self.old.first ≡ None }
+        requires { self.old.first_target ≡ None }
         ensures { self.new ≡ with_first target self.old }
     {
         self.kept = match target {

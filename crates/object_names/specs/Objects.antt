@@ -1,5 +1,5 @@
--- The objects that were given a handle, their marks and their holds (WebGL 1.0 section 5.14.5, OpenGL ES 2.0
--- appendix D).
+-- The objects that were given a handle, their marks and their holds (WebGL 1.0 sections 5.14.5 to 5.14.9, OpenGL
+-- ES 2.0 sections 2.10.1 and 2.10.3 and appendix C).
 use Rattle.std.specs.Prelude.{◌≡◌, ◌≢◌, ℕ, ◌+◌, ◌-◌, ◌<◌, ◌==◌, if◌then◌else◌, Bool, true, false, ◌⊎◌, Option, Some, None, List, [], length, IfSome, IsSomeAnd, slice_get, slice_set}
 use Rattle.gl_numbers.specs.declared.kinds.Kind.{Kind}
 use Rattle.gl_numbers.specs.declared.kinds.Kind.TheVariants.{Buffer, Texture, Renderbuffer, Framebuffer, Shader, Program}

@@ -99,7 +99,7 @@ impl Names {
         }
     }
 
-    /// Marks a live object as deleted (OpenGL ES 2.0 appendix D). True exactly where nothing holds it, and then it
+    /// Marks a live object as deleted (OpenGL ES 2.0 appendix C). True exactly where nothing holds it, and then it
     /// is gone and its driver name is free.
     pub fn delete(&mut self, h: Handle) -> bool
         requires { IsSomeAnd (object_at self.old.objects h) (λ o. o.marked ≡ false) }
