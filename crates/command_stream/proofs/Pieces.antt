@@ -75,11 +75,11 @@ length-header : (number len : ℕ) → length (le32 number ++ le32 len) ≡ 8
 length-header number len = length-append (le32 number) (le32 len) ∙ omega (arith, length-le32 number, length-le32 len)
 
 -- the length of a header and what follows it
-length-two : (number len : ℕ) (rest : List ℕ) → length (le32 number ++ (le32 len ++ rest)) ≡ 8 + length rest
+pub length-two : (number len : ℕ) (rest : List ℕ) → length (le32 number ++ (le32 len ++ rest)) ≡ 8 + length rest
 length-two number len rest = length-append (le32 number) (le32 len ++ rest) ∙ omega (arith, length-le32 number, length-le32 len, length-append (le32 len) rest)
 
 -- each operation's number is a word
-number-fits : (operation : Operation) → number_of operation < 2 ^ 32
+pub number-fits : (operation : Operation) → number_of operation < 2 ^ 32
 number-fits op.MakeBuffer = lit< tt
 number-fits op.DropBuffer = lit< tt
 number-fits op.BindBuffer = lit< tt
@@ -102,9 +102,9 @@ words-one m n k l x y m_fits n_fits k_fits l_fits e =
     let second : Same k l x y = le32-one k l x y k_fits l_fits first.rest in
     second.word
 
--- a part of a command is no longer than the command
+-- a part of a command is shorter than the command
 pub part-within : (begun piece first : List ℕ) (operation : Operation) (len : ℕ) → begun ++ piece ≡ first ++ drop 8 (begun ++ piece)
-    → Judges first (Some (operation, len)) → IsPartOfCommand begun → length begun ≤ 8 + len
+    → Judges first (Some (operation, len)) → IsPartOfCommand begun → length begun < 8 + len
 part-within begun piece first operation len e j (inl short) = omega (arith, short)
 part-within begun piece first operation len e j (inr p) =
     let fits : len < 2 ^ 32 = omega (arith, allows-within operation len j.1) in

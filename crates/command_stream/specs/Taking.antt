@@ -36,7 +36,7 @@ TakesIn started old held piece new (Part now_started now_held) =
     × (start_taken started ++ (take held old ++ piece) ≡ start_taken now_started ++ take now_held new)
     × IsPart now_started (take now_held new)
 TakesIn started old held piece new (Whole operation n size) =
-    (length new ≡ length old) × (size ≤ length new) × (n ≤ length piece)
+    (length new ≡ length old) × (size ≤ length new) × (n ≤ length piece) × (0 < n)
     × (start_taken started ++ (take held old ++ take n piece) ≡ stream_start ++ take size new)
     × IsWhole operation (take size new)
 

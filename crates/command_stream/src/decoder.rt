@@ -1,4 +1,4 @@
-ghost use Rattle.std.specs.Prelude.{◌≡◌, ℕ, ◌+◌, ◌<◌, ◌^◌, ◌↔◌, ⊤, [], false, true, IsTrue, IfOk};
+ghost use Rattle.std.specs.Prelude.{◌≡◌, ℕ, ◌+◌, ◌<◌, ◌≤◌, ◌^◌, ◌↔◌, ⊤, [], length, false, true, IsTrue, IfOk};
 ghost use Rattle.std.specs.Borrow.{sem, follows_so};
 ghost use mathlib.Core.Option.{none};
 ghost use Rattle.command_stream.specs.contracts.decoder.Decoder.{the_row};
@@ -74,6 +74,8 @@ impl Decoder {
     /// nothing is taken.
     pub fn feed<'d>(&'d mut self, piece: &[u8]) -> Result<(usize, Option<Command<'d>>), Bad>
         requires { self.old.taken < 2 ^ 63 }
+        ensures within { IfOk result (λ found. found.0 ≤ length piece.now) }
+        ensures progress { IfOk result (λ found. 0 < length piece.now → 0 < found.0) }
         ensures* after { sem 𝓛 (follows_so the_row the_row self.entry.ghost_name none (λ _ _. ⊤) (λ new. Feeds self.old piece.now new result)) }
     {
         match take_in(self.bytes.as_mut_slice(), self.started, self.held, piece) {

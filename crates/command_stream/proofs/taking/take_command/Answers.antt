@@ -1,4 +1,4 @@
-use Rattle.std.proofs.Common.{◌≡◌, ◌+◌, ◌-◌, ◌≤◌, ◌++◌, List, ℕ, length, take, refl, ap, sym, ◌∙◌, arith}
+use Rattle.std.proofs.Common.{◌≡◌, ◌+◌, ◌-◌, ◌<◌, ◌≤◌, ◌++◌, List, ℕ, length, take, refl, ap, sym, ◌∙◌, arith}
 use Rattle.std.proofs.lemmas.List.{length-take-le}
 use Rattle.command_stream.specs.declared.operation.TheConstants.{BODY_MAX}
 use Rattle.command_stream.specs.Commands.{stream_start}
@@ -19,7 +19,7 @@ returns c =
     let len : ℕ = c.in-Some-judge.len in
     let more : ℕ = 8 + len - c.args.held in
     let held : length begun ≡ c.args.held = length-take-le c.args.held c.args.bytes.now (omega (arith, c.requires.room, c.requires.within)) in
-    let within : c.args.held ≤ 8 + len = omega (arith, held, part-within begun c.args.piece.now _ c.in-Some-judge.operation len c.in-Some.ensures.0 c.in-Some-judge.ensures c.requires.begun) in
+    let within : c.args.held < 8 + len = omega (arith, held, part-within begun c.args.piece.now _ c.in-Some-judge.operation len c.in-Some.ensures.0 c.in-Some-judge.ensures c.requires.begun) in
     let short : len ≤ BODY_MAX = allows-within c.in-Some-judge.operation len c.in-Some-judge.ensures.1 in
     let brought : length (take more c.args.piece.now) ≡ more = length-take-le more c.args.piece.now c.if-piece-more.false in
     let sum : 8 + len ≡ c.args.held + length (take more c.args.piece.now) = omega (arith, brought, within) in
@@ -28,6 +28,7 @@ returns c =
       c.hold-2.ensures.size,
       room,
       c.if-piece-more.false,
+      omega (arith, within),
       ap (λ t. stream_start ++ t) (sym are),
       whole c.in-Some-judge.operation len more begun c.args.piece.now _ (take (8 + len) c.hold-2.new.bytes) c.in-Some.ensures.0 c.in-Some-judge.ensures are (length-take-le (8 + len) c.hold-2.new.bytes room),
     )

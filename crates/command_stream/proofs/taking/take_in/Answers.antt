@@ -12,8 +12,9 @@ returns-in-Whole c =
       c.in-Whole.ensures.0,
       c.in-Whole.ensures.1,
       omega (arith, more, length-drop c.in-Finished.n c.args.piece.now, c.in-Finished.ensures.0),
-      taken-behind-start (take c.args.held c.args.bytes.now) c.args.piece.now c.in-Finished.n c.in-Whole.more c.in-Finished.ensures.1 ∙ (rw rest at c.in-Whole.ensures.3),
-      c.in-Whole.ensures.4,
+      omega (arith, c.in-Whole.ensures.3),
+      taken-behind-start (take c.args.held c.args.bytes.now) c.args.piece.now c.in-Finished.n c.in-Whole.more c.in-Finished.ensures.1 ∙ (rw rest at c.in-Whole.ensures.4),
+      c.in-Whole.ensures.5,
     )
 
 pub returns-in_default : goal.returns-in_default

@@ -28,5 +28,5 @@ invariant_of-self-in-Whole c =
       omega arith,
       inl (omega arith),
       counted-whole c.self.inside.started (take c.self.inside.held c.self.inside.bytes.items) c.args.piece.now (take c.in-Whole.size c.take_in.new.bytes) c.self.inside.taken c.in-Whole.n
-          c.self.invariant.3 c.in-Whole.ensures.2 (rw c.as_mut_slice.ensures.value at c.in-Whole.ensures.3),
+          c.self.invariant.3 c.in-Whole.ensures.2 (rw c.as_mut_slice.ensures.value at c.in-Whole.ensures.4),
     )
