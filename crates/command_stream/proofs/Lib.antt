@@ -1,2 +1,4 @@
 pub mod Allowed
 pub mod OneSpelling
+pub mod Pieces
+pub mod Decoding

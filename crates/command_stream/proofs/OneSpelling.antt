@@ -47,7 +47,7 @@ again (BufferBytes target offset tail) w =
     simp (word_at-le32 target (le32 offset ++ tail.now) w.0, drop-le32, word_at-le32 offset tail.now w.1)
 
 -- a command's number is a word
-op-fits : (c : Command) → op_of c < 2 ^ 32
+pub op-fits : (c : Command) → op_of c < 2 ^ 32
 op-fits (MakeBuffer name) = lit< tt
 op-fits (DropBuffer name) = lit< tt
 op-fits (BindBuffer target name) = lit< tt
@@ -66,7 +66,7 @@ pub record SameParts (op op' : ℕ) (body body' x y : List ℕ) : Type 0 where
   pub rest : x ≡ y
 
 -- lists of one length at the fronts of equal lists
-same_fronts : (xs ys x y : List ℕ) → length xs ≡ length ys → xs ++ x ≡ ys ++ y → (xs ≡ ys) × (x ≡ y)
+pub same_fronts : (xs ys x y : List ℕ) → length xs ≡ length ys → xs ++ x ≡ ys ++ y → (xs ≡ ys) × (x ≡ y)
 same_fronts xs ys x y l e =
     let front : xs ≡ ys = sym (take-append_seam xs x) ∙ ap (take (length xs)) e ∙ ap (λ n. take n (ys ++ y)) l ∙ take-append_seam ys y in
     let back : x ≡ y = sym (drop-append_seam xs x) ∙ ap (drop (length xs)) e ∙ ap (λ n. drop n (ys ++ y)) l ∙ drop-append_seam ys y in
@@ -100,7 +100,7 @@ command_spelling-one a b x y fits_a fits_b e =
     }
 
 -- no spelling is empty
-spelling-some : (c : Command) (x : List ℕ) → [] ≡ command_spelling c ++ x → ⊥
+pub spelling-some : (c : Command) (x : List ℕ) → [] ≡ command_spelling c ++ x → ⊥
 unfolding le32
 spelling-some c x e = cc
 

@@ -4,15 +4,20 @@
 //! a fault a front of it, and no two lists of commands have the same bytes.
 #![tactic(auto)]
 
+mod bad;
 mod command;
+mod decoder;
 mod fronts;
 mod operation;
+mod taking;
 mod write;
 
+pub use bad::Bad;
 pub use command::Command;
+pub use decoder::Decoder;
 pub use operation::{
     BIND_BUFFER, BODY_MAX, BUFFER_BYTES, BUFFER_SIZE, DROP_BUFFER, HEADER_BYTES, MAKE_BUFFER,
-    Operation, STREAM_VERSION,
+    Operation, START_BYTES, STREAM_VERSION,
 };
 pub use write::{write_command, write_start};
 

@@ -4,6 +4,9 @@ ghost use Rattle.command_stream.specs.Operations.{number_of, field_bytes_of, end
 /// The version that a stream's header names.
 pub const STREAM_VERSION: u32 = 1;
 
+/// The bytes of the stream's header: `ESCS`, and the version.
+pub const START_BYTES: usize = 8;
+
 /// The bytes of a command's header: its operation, and its body's length in bytes.
 pub const HEADER_BYTES: usize = 8;
 
