@@ -1,0 +1,4 @@
+pub mod Items
+pub mod Same
+pub mod Fitting
+pub mod Arguments
