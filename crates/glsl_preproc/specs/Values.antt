@@ -20,14 +20,19 @@ is_zero z = int_eq z (pos 0)
 abbrev pub truth : Bool → Option ℤ
 truth b = if b then Some (pos 1) else Some (pos 0)
 
--- v << n is v * 2 ^ n, and v >> n keeps the sign, for n from 0 to 31
-unfoldable pub shifted_left : ℤ → ℤ → Option ℤ
-shifted_left a (pos n) = if nat_lt n 32 then fitting (a *ℤ pos (2 ^ n)) else None
-shifted_left a (negsuc n) = None
+-- a shift count is a number from 0 to 31
+unfoldable pub shift_count : ℤ → Option ℕ
+shift_count (pos n) = if nat_lt n 32 then Some n else None
+shift_count (negsuc n) = None
 
-unfoldable pub shifted_right : ℤ → ℤ → Option ℤ
-shifted_right a (pos n) = if nat_lt n 32 then Some (int_shr a n) else None
-shifted_right a (negsuc n) = None
+-- v << n is v * 2 ^ n, and v >> n keeps the sign
+abbrev pub left_by : ℤ → Option ℕ → Option ℤ
+left_by a None = None
+left_by a (Some n) = fitting (a *ℤ pos (2 ^ n))
+
+abbrev pub right_by : ℤ → Option ℕ → Option ℤ
+right_by a None = None
+right_by a (Some n) = Some (int_shr a n)
 
 -- division toward 0, which a divisor of 0 has not
 unfoldable pub divided : ℤ → ℤ → Option ℤ
@@ -46,8 +51,8 @@ computed Divide a b = divided a b
 computed Remainder a b = remainder a b
 computed Add a b = fitting (a +ℤ b)
 computed Subtract a b = fitting (a -ℤ b)
-computed ShiftLeft a b = shifted_left a b
-computed ShiftRight a b = shifted_right a b
+computed ShiftLeft a b = left_by a (shift_count b)
+computed ShiftRight a b = right_by a (shift_count b)
 computed Less a b = truth (int_lt a b)
 computed Greater a b = truth (int_lt b a)
 computed AtMost a b = truth (int_le a b)

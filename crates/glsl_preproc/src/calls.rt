@@ -1,13 +1,13 @@
-ghost use Rattle.std.specs.Prelude.{◌≡◌, ◌≤◌, ◌<◌, ◌+◌, [], IfOk, IfSome, length};
+ghost use Rattle.std.specs.Prelude.{◌≡◌, ◌≤◌, ◌<◌, ◌+◌, ◌-◌, ◌==◌, ◌&&◌, if◌then◌else◌, [], IfOk, IfSome, length};
 ghost use Rattle.std.specs.List.{list_any};
 ghost use Rattle.std.specs.Str.{bytes_eq};
 ghost use Rattle.glsl_tree.specs.Token.{plain, plain_tokens};
-ghost use Rattle.glsl_preproc.specs.Replacement.{arguments_from, fits_parameters, used, use_of};
+ghost use Rattle.glsl_preproc.specs.Replacement.{opens, closes, is_comma, arguments_from, fits_parameters, used, use_of};
 ghost use Rattle.glsl_preproc.specs.Views.{plain_macro, plain_macros, texts, found_of, lists, use_view, IsWithin};
 
 use crate::macro_table::find_macro;
 use crate::macros::Macro;
-use crate::tokens::{closes, copy_of, is_comma, is_name, is_text, opens};
+use crate::tokens::{closes, is_comma, is_name, is_text, opens, push_copy, push_list};
 use glsl_tree::Token;
 use std::alloc::{AllocError, Global};
 
@@ -35,6 +35,32 @@ pub enum Use<'a> {
     WrongCount,
 }
 
+/// Whether the token closes the call, where so many brackets are open in it.
+fn ends_call(depth: usize, token: &Token) -> bool
+    ensures { result ≡ (depth == 0 && closes (plain token.now)) }
+{
+    depth == 0 && closes(token)
+}
+
+/// Whether the token parts two arguments, where so many brackets are open in the call.
+fn parts_arguments(depth: usize, token: &Token) -> bool
+    ensures { result ≡ (depth == 0 && is_comma (plain token.now)) }
+{
+    depth == 0 && is_comma(token)
+}
+
+/// How many brackets are open behind the token, which opens none.
+fn depth_behind(depth: usize, token: &Token) -> usize
+    ensures depth { result ≡ (if closes (plain token.now) then depth - 1 else depth) }
+    ensures within { result ≤ depth }
+{
+    if closes(token) {
+        depth.saturating_sub(1)
+    } else {
+        depth
+    }
+}
+
 /// The arguments of a call, from the first token behind its `(` on, if its `)` comes.
 pub fn arguments_at(alloc: Global, list: &[Token]) -> Result<Option<Arguments>, AllocError>
     ensures found { IfOk result (λ found. found_of found ≡ arguments_from [] [] 0 1 (plain_tokens list.now)) }
@@ -49,19 +75,17 @@ pub fn arguments_at(alloc: Global, list: &[Token]) -> Result<Option<Arguments>, 
         let tail = rest.split_at(1).1;
         if opens(token) {
             depth += 1;
-            current.push(copy_of(alloc, token)?)?;
-        } else if depth == 0 && closes(token) {
-            lists.push(current)?;
-            let count = list.len() - tail.len() + 1;
+            push_copy(alloc, &mut current, token)?;
+        } else if ends_call(depth, token) {
+            push_list(&mut lists, current)?;
+            let count = 1 + (list.len() - tail.len());
             return Ok(Some(Arguments { lists, count }));
-        } else if depth == 0 && is_comma(token) {
-            lists.push(current)?;
+        } else if parts_arguments(depth, token) {
+            push_list(&mut lists, current)?;
             current = Vec::new(alloc);
         } else {
-            if closes(token) {
-                depth -= 1;
-            }
-            current.push(copy_of(alloc, token)?)?;
+            depth = depth_behind(depth, token);
+            push_copy(alloc, &mut current, token)?;
         }
         rest = tail;
     }

@@ -1,7 +1,7 @@
 ghost use Rattle.std.specs.Prelude.{◌≡◌, ◌≤◌, ◌<◌, ◌+◌, ◌^◌, [], ◌∷◌, ◌++◌, IfOk, OnOk, length};
 ghost use Rattle.glsl_tree.specs.Token.{plain, plain_tokens};
 ghost use Rattle.glsl_preproc.specs.Values.{operator_of};
-ghost use Rattle.glsl_preproc.specs.Conditions.{asked_at, answered_from, primary_of, in_brackets, behind_sign, at_level, expression_at, operand_within, condition, judged};
+ghost use Rattle.glsl_preproc.specs.Conditions.{asked_at, answer_token, answered_from, primary_of, in_brackets, behind_sign, at_level, expression_at, operand_within, condition, judged};
 ghost use Rattle.glsl_preproc.specs.Views.{plain_macros};
 ghost use Rattle.glsl_preproc.specs.ConditionViews.{answered_of, asked_of, IsAskedWithin, signed, sign_of, parsed_of, IsParsedWithin, judged_of, IsJudged};
 
@@ -11,7 +11,7 @@ use crate::macros::Macro;
 use crate::numbers::int_value;
 use crate::operators::Operator;
 use crate::replacement::{WORK, expand_list};
-use crate::tokens::{closes, copy_of, is_name, is_text, number_token, opens};
+use crate::tokens::{closes, is_name, is_text, number_token, opens, push_copy};
 use crate::values::{applied, complemented, inverted, level_of, negated, operator_of};
 use glsl_tree::{Class, Token};
 use std::alloc::{AllocError, Global};
@@ -49,6 +49,19 @@ fn asked_at<'a>(token: &Token, rest: &'a [Token]) -> Asked<'a>
     }
 }
 
+/// Adds 1 or 0.
+fn push_answer(alloc: Global, out: &mut Vec<Token>, answer: bool) -> Result<(), AllocError>
+    ensures { OnOk result (plain_tokens out.new.items ≡ plain_tokens out.old.items ++ answer_token answer ∷ []) }
+{
+    let number = if answer {
+        number_token(alloc, b"1")?
+    } else {
+        number_token(alloc, b"0")?
+    };
+    out.push(number)?;
+    Ok(())
+}
+
 /// The list with 1 or 0 for each `defined`, where each has a name.
 fn answered(alloc: Global, macros: &[Macro], list: &[Token]) -> Result<Option<Vec<Token>>, AllocError>
     ensures { IfOk result (λ found. answered_of found ≡ answered_from (plain_macros macros.now) [] 0 (plain_tokens list.now)) }
@@ -56,15 +69,15 @@ fn answered(alloc: Global, macros: &[Macro], list: &[Token]) -> Result<Option<Ve
     let mut out = Vec::new(alloc);
     let mut rest = list;
     while !rest.is_empty() {
+        let token = &rest[0];
         let tail = rest.split_at(1).1;
-        match asked_at(&rest[0], tail) {
+        match asked_at(token, tail) {
             Asked::Other => {
-                out.push(copy_of(alloc, &rest[0])?)?;
+                push_copy(alloc, &mut out, token)?;
                 rest = tail;
             }
             Asked::Of(name, count) => {
-                let text: &[u8] = if is_defined(macros, name) { b"1" } else { b"0" };
-                out.push(number_token(alloc, text)?)?;
+                push_answer(alloc, &mut out, is_defined(macros, name))?;
                 rest = tail.split_at(count).1;
             }
             Asked::Broken => return Ok(None),

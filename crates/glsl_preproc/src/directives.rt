@@ -1,8 +1,9 @@
-ghost use Rattle.std.specs.Prelude.{◌≡◌, ◌≤◌, ◌+◌, [], IfOk, IfSome, Some, None, not, length, codes};
+ghost use Rattle.std.specs.Prelude.{◌≡◌, ◌≤◌, ◌+◌, [], IfOk, IfSome, Some, None, not, ◌&&◌, length, codes};
 ghost use Rattle.std.specs.Option.{option_map};
 ghost use Rattle.std.specs.List.{list_any};
 ghost use Rattle.std.specs.Str.{bytes_eq};
 ghost use Rattle.glsl_tree.specs.Token.{plain, plain_tokens};
+ghost use Rattle.glsl_preproc.specs.Macros.{is_name_token};
 ghost use Rattle.glsl_preproc.specs.Directives.{kind_of_name, kind_of, parameters_from, parameters_at, macro_of, definition_of, after_define, after_undef, asked_defined, is_version, is_offered, is_extension, are_line_numbers};
 ghost use Rattle.glsl_preproc.specs.Views.{plain_macro, plain_macros, texts};
 ghost use Rattle.glsl_preproc.specs.DirectiveViews.{names_of, Changes};
@@ -10,7 +11,7 @@ ghost use Rattle.glsl_preproc.specs.DirectiveViews.{names_of, Changes};
 use crate::kinds::Kind;
 use crate::macro_table::{find_macro, is_defined, is_reserved, same_macro};
 use crate::macros::Macro;
-use crate::tokens::{closes, copy_of, is_comma, is_int, is_name, is_params, is_text};
+use crate::tokens::{closes, copy_of, is_comma, is_int, is_name, is_params, is_text, push_name};
 use glsl_tree::Token;
 use std::alloc::{AllocError, Global};
 
@@ -83,6 +84,13 @@ fn is_among(names: &[Vec<u8>], name: &[u8]) -> bool
     false
 }
 
+/// Whether the token is a name that is not among others.
+fn is_new_name(names: &[Vec<u8>], token: &Token) -> bool
+    ensures { result ≡ (is_name_token (plain token.now) && not (list_any (λ p. bytes_eq p token.now.text.items) (texts names.now))) }
+{
+    is_name(token) && !is_among(names, token.text.as_slice())
+}
+
 /// One parameter at least, where different names stand there, parted by commas, and a `)` behind the last.
 fn parameters_from(alloc: Global, list: &[Token]) -> Result<Option<Parameters>, AllocError>
     ensures found { IfOk result (λ found. names_of found ≡ parameters_from [] 0 (plain_tokens list.now)) }
@@ -91,17 +99,18 @@ fn parameters_from(alloc: Global, list: &[Token]) -> Result<Option<Parameters>, 
     let mut names = Vec::new(alloc);
     let mut rest = list;
     while rest.len() >= 2 {
-        if !is_name(&rest[0]) || is_among(names.as_slice(), rest[0].text.as_slice()) {
+        let name = &rest[0];
+        let separator = &rest[1];
+        let tail = rest.split_at(2).1;
+        if !is_new_name(names.as_slice(), name) {
             return Ok(None);
         }
-        let name = Vec::from_slice(alloc, rest[0].text.as_slice())?;
-        names.push(name)?;
-        let tail = rest.split_at(2).1;
-        if closes(&rest[1]) {
+        push_name(alloc, &mut names, name.text.as_slice())?;
+        if closes(separator) {
             let count = list.len() - tail.len();
             return Ok(Some(Parameters { names, count }));
         }
-        if !is_comma(&rest[1]) {
+        if !is_comma(separator) {
             return Ok(None);
         }
         rest = tail;

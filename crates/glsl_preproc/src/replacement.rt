@@ -8,7 +8,7 @@ use crate::calls::{Arguments, Use, use_of};
 use crate::errors::Pre;
 use crate::macro_table::same_text;
 use crate::macros::Macro;
-use crate::tokens::{append_at_line, copy_of, line_number};
+use crate::tokens::{append_at_line, copy_at, copy_of, line_number, push_list, push_name};
 use glsl_tree::Token;
 use std::alloc::{AllocError, Global};
 
@@ -44,6 +44,25 @@ fn argument_of<'a>(parameters: &[Vec<u8>], arguments: &'a [Vec<Token>], name: &[
     None
 }
 
+/// Adds the tokens of an argument, or the token where it is none of a parameter's name.
+fn append_argument(
+    alloc: Global,
+    out: &mut Vec<Token>,
+    argument: Option<&Vec<Token>>,
+    token: &Token,
+    line: u32,
+) -> Result<(), AllocError>
+    ensures { OnOk result (plain_tokens out.new.items ≡ plain_tokens out.old.items ++ at_line line (argument_or (option_map (λ v. plain_tokens v.now.items) argument.entry) (plain token.now))) }
+{
+    match argument {
+        Some(tokens) => append_at_line(alloc, out, tokens.as_slice(), line),
+        None => {
+            out.push(copy_at(alloc, token, line)?)?;
+            Ok(())
+        }
+    }
+}
+
 /// A replacement with the arguments in the places of the parameters.
 fn substituted(
     alloc: Global,
@@ -57,10 +76,8 @@ fn substituted(
     let mut out = Vec::new(alloc);
     let mut rest = body;
     while !rest.is_empty() {
-        match argument_of(parameters, arguments, rest[0].text.as_slice()) {
-            Some(tokens) => append_at_line(alloc, &mut out, tokens.as_slice(), line)?,
-            None => append_at_line(alloc, &mut out, rest.split_at(1).0, line)?,
-        }
+        let token = &rest[0];
+        append_argument(alloc, &mut out, argument_of(parameters, arguments, token.text.as_slice()), token, line)?;
         rest = rest.split_at(1).1;
     }
     Ok(out)
@@ -109,38 +126,40 @@ pub fn expand_list(
         let Ok(()) = spend(work) else {
             return Err(Pre::Memory);
         };
-        let Ok(found) = use_of(alloc, macros, hidden.as_slice(), &rest[0], rest.split_at(1).1) else {
+        let token = &rest[0];
+        let tail = rest.split_at(1).1;
+        let Ok(found) = use_of(alloc, macros, hidden.as_slice(), token, tail) else {
             return Err(Pre::Memory);
         };
         match found {
             Use::Kept => {
-                let Ok(copy) = copy_of(alloc, &rest[0]) else {
+                let Ok(copy) = copy_of(alloc, token) else {
                     return Err(Pre::Memory);
                 };
                 match push_within(out, limit, copy) {
-                    Ok(()) => rest = rest.split_at(1).1,
+                    Ok(()) => rest = tail,
                     Err(e) => return Err(e),
                 }
             }
             Use::LineNumber => {
-                let Ok(number) = line_number(alloc, &rest[0]) else {
+                let Ok(number) = line_number(alloc, token) else {
                     return Err(Pre::Memory);
                 };
                 match push_within(out, limit, number) {
-                    Ok(()) => rest = rest.split_at(1).1,
+                    Ok(()) => rest = tail,
                     Err(e) => return Err(e),
                 }
             }
-            Use::WrongCount => return Err(Pre::Directive(rest[0].line)),
+            Use::WrongCount => return Err(Pre::Directive(token.line)),
             Use::Object(m) => {
-                match expand_object(alloc, macros, below, hidden, work, &rest[0], m, out, limit) {
-                    Ok(()) => rest = rest.split_at(1).1,
+                match expand_object(alloc, macros, below, hidden, work, token, m, out, limit) {
+                    Ok(()) => rest = tail,
                     Err(e) => return Err(e),
                 }
             }
             Use::Call(m, arguments) => {
-                match expand_call(alloc, macros, below, hidden, work, &rest[0], m, &arguments, out, limit) {
-                    Ok(()) => rest = rest.split_at(1 + arguments.count).1,
+                match expand_call(alloc, macros, below, hidden, work, token, m, &arguments, out, limit) {
+                    Ok(()) => rest = tail.split_at(arguments.count).1,
                     Err(e) => return Err(e),
                 }
             }
@@ -167,10 +186,7 @@ fn rescan(
     ensures hidden { OnOk result (texts hidden.new.items ≡ texts hidden.old.items) }
     ensures within { length out.new.items ≤ limit }
 {
-    let Ok(name) = Vec::from_slice(alloc, name) else {
-        return Err(Pre::Memory);
-    };
-    let Ok(()) = hidden.push(name) else {
+    let Ok(()) = push_name(alloc, hidden, name) else {
         return Err(Pre::Memory);
     };
     match expand_list(alloc, macros, levels, hidden, work, list, out, limit) {
@@ -229,7 +245,7 @@ fn expand_arguments(
             Err(Pre::Directive(line)) => return Err(Pre::Directive(line)),
             Err(_) => return Err(Pre::Memory),
         }
-        let Ok(()) = done.push(tokens) else {
+        let Ok(()) = push_list(&mut done, tokens) else {
             return Err(Pre::Memory);
         };
         rest = rest.split_at(1).1;

@@ -1,4 +1,4 @@
-ghost use Rattle.std.specs.Prelude.{◌≡◌, IfOk, OnOk, ◌++◌, codes};
+ghost use Rattle.std.specs.Prelude.{◌≡◌, IfOk, OnOk, [], ◌∷◌, ◌++◌, codes};
 ghost use Rattle.std.specs.Str.{bytes_eq};
 ghost use Rattle.std.specs.Fmt.{decimal};
 ghost use Rattle.glsl_tree.specs.Token.{plain, plain_tokens};
@@ -7,7 +7,7 @@ ghost use Rattle.glsl_preproc.specs.Macros.{is_text, is_name_token, class_number
 ghost use Rattle.glsl_preproc.specs.Replacement.{opens, closes, is_comma, at_line, line_number};
 ghost use Rattle.glsl_preproc.specs.Directives.{is_hash_token, is_int_class, is_params};
 ghost use Rattle.glsl_preproc.specs.Expansion.{is_line_end};
-ghost use Rattle.glsl_preproc.specs.Views.{placed};
+ghost use Rattle.glsl_preproc.specs.Views.{placed, texts, lists};
 
 use glsl_tree::{Class, Token};
 use std::alloc::{AllocError, Global};
@@ -108,6 +108,30 @@ pub fn copy_of(alloc: Global, token: &Token) -> Result<Token, AllocError>
     ensures { IfOk result (λ copy. plain copy ≡ plain token.now) }
 {
     copy_at(alloc, token, token.line)
+}
+
+/// Adds a copy of a token.
+pub fn push_copy(alloc: Global, out: &mut Vec<Token>, token: &Token) -> Result<(), AllocError>
+    ensures { OnOk result (plain_tokens out.new.items ≡ plain_tokens out.old.items ++ plain token.now ∷ []) }
+{
+    out.push(copy_of(alloc, token)?)?;
+    Ok(())
+}
+
+/// Adds a list of tokens.
+pub fn push_list(out: &mut Vec<Vec<Token>>, list: Vec<Token>) -> Result<(), AllocError>
+    ensures { OnOk result (lists out.new.items ≡ lists out.old.items ++ plain_tokens list.items ∷ []) }
+{
+    out.push(list)?;
+    Ok(())
+}
+
+/// Adds a copy of a name.
+pub fn push_name(alloc: Global, out: &mut Vec<Vec<u8>>, name: &[u8]) -> Result<(), AllocError>
+    ensures { OnOk result (texts out.new.items ≡ texts out.old.items ++ name.now ∷ []) }
+{
+    out.push(Vec::from_slice(alloc, name)?)?;
+    Ok(())
 }
 
 /// Adds copies of tokens, all on one line.

@@ -1,5 +1,5 @@
-ghost use Rattle.std.specs.Prelude.{◌≡◌, ◌*ℤ◌, ◌+ℤ◌, ◌-ℤ◌, neg_ℤ, int_div, int_rem, if◌then◌else◌, None, Some, pos};
-ghost use Rattle.glsl_preproc.specs.Values.{fitting, is_zero, truth, shifted_left, shifted_right, computed, both, applied_to, applied, negated, complemented, inverted, single_operator, double_operator, operator_of, level_of, divided, remainder};
+ghost use Rattle.std.specs.Prelude.{◌≡◌, ◌+ℤ◌, ◌-ℤ◌, neg_ℤ, int_div, int_rem, if◌then◌else◌, None, Some, IfSome, pos, ◌*ℤ◌, ◌^◌, ◌<◌};
+ghost use Rattle.glsl_preproc.specs.Values.{fitting, is_zero, truth, shift_count, left_by, right_by, computed, both, applied_to, applied, negated, complemented, inverted, single_operator, double_operator, operator_of, level_of, divided, remainder};
 
 use crate::operators::Operator;
 
@@ -35,33 +35,56 @@ fn divided(a: i32, b: i32) -> Option<i32>
 fn remainder(a: i32, b: i32) -> Option<i32>
     ensures { result ≡ remainder a b }
 {
-    match b {
-        0 => None,
-        -1 => Some(0),
-        _ => Some(a % b),
+    if b == 0 {
+        None
+    } else if b == -1 {
+        Some(0)
+    } else {
+        Some(a % b)
     }
 }
 
-/// `a << b`, which is a * 2 ^ b, for b from 0 to 31.
-#[tactic(auto, unfolding(crate::specs::Values::shifted_left))]
-fn shifted_left(a: i32, b: i32) -> Option<i32>
-    ensures { result ≡ shifted_left a b }
+/// A shift count, which is a number from 0 to 31.
+fn shift_count(b: i32) -> Option<u32>
+    ensures count { result ≡ shift_count b }
+    ensures small { IfSome result (λ n. n < 32) }
 {
-    if b < 0 || b > 31 {
+    if b < 0 {
         return None;
     }
-    i32::try_from(i64::from(a) * (1i64 << b)).ok()
+    if b > 31 {
+        return None;
+    }
+    Some(b as u32)
 }
 
-/// `a >> b`, which keeps the sign, for b from 0 to 31.
-#[tactic(auto, unfolding(crate::specs::Values::shifted_right))]
-fn shifted_right(a: i32, b: i32) -> Option<i32>
-    ensures { result ≡ shifted_right a b }
+/// `a << n`, which is a * 2 ^ n.
+fn shifted_left(a: i32, n: u32) -> Option<i32>
+    requires { n < 32 }
+    ensures { result ≡ fitting (a *ℤ pos (2 ^ n)) }
 {
-    if b < 0 || b > 31 {
-        return None;
+    let power = 1u32 << n;
+    i32::try_from(i64::from(a) * i64::from(power)).ok()
+}
+
+/// `a << b`
+fn left_by(a: i32, b: i32) -> Option<i32>
+    ensures { result ≡ left_by a (shift_count b) }
+{
+    match shift_count(b) {
+        None => None,
+        Some(n) => shifted_left(a, n),
     }
-    Some(a >> b)
+}
+
+/// `a >> b`, which keeps the sign.
+fn right_by(a: i32, b: i32) -> Option<i32>
+    ensures { result ≡ right_by a (shift_count b) }
+{
+    match shift_count(b) {
+        None => None,
+        Some(n) => Some(a >> n),
+    }
 }
 
 fn truth(b: bool) -> Option<i32>
@@ -81,8 +104,8 @@ fn computed(op: Operator, a: i32, b: i32) -> Option<i32>
         Operator::Remainder => remainder(a, b),
         Operator::Add => sum(a, b),
         Operator::Subtract => difference(a, b),
-        Operator::ShiftLeft => shifted_left(a, b),
-        Operator::ShiftRight => shifted_right(a, b),
+        Operator::ShiftLeft => left_by(a, b),
+        Operator::ShiftRight => right_by(a, b),
         Operator::Less => truth(a < b),
         Operator::Greater => truth(b < a),
         Operator::AtMost => truth(a <= b),
