@@ -4,3 +4,4 @@ pub mod Fitting
 pub mod Arguments
 pub mod ArgumentLists
 pub mod Substitution
+pub mod Expanding

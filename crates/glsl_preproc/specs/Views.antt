@@ -65,3 +65,8 @@ ExpandsArguments read (Ok v) = read ≡ Ok (lists v.items)
 ExpandsArguments read (Err (pre.Directive line)) = read ≡ Err (Failed line)
 ExpandsArguments read (Err pre.TooLong) = ⊥
 ExpandsArguments read (Err pre.Memory) = Unit {0}
+
+-- an error of an argument, as the call answers it
+abbrev pub argument_error : Pre → Pre
+argument_error (pre.Directive line) = pre.Directive line
+argument_error _ = pre.Memory

@@ -1,8 +1,8 @@
-ghost use Rattle.std.specs.Prelude.{ℕ, ◌≡◌, ◌≤◌, ◌<◌, ◌+◌, ◌-◌, [], ◌∷◌, ◌++◌, IfOk, OnOk, length};
+ghost use Rattle.std.specs.Prelude.{ℕ, ◌≡◌, ◌≤◌, ◌<◌, ◌+◌, ◌-◌, [], ◌∷◌, ◌++◌, IfOk, IfErr, OnOk, length};
 ghost use Rattle.std.specs.Option.{option_map};
 ghost use Rattle.glsl_tree.specs.Token.{plain, plain_tokens};
 ghost use Rattle.glsl_preproc.specs.Replacement.{argument_of, argument_or, substituted, expanded, expanded_arguments, at_line, call_outcome};
-ghost use Rattle.glsl_preproc.specs.Views.{plain_macro, plain_macros, texts, lists, parameters_of, Expands, ExpandsArguments};
+ghost use Rattle.glsl_preproc.specs.Views.{plain_macro, plain_macros, texts, lists, parameters_of, Expands, ExpandsArguments, argument_error};
 
 use crate::calls::{Arguments, Use, use_of};
 use crate::errors::Pre;
@@ -86,8 +86,8 @@ fn substituted(
 /// Adds a token, where there is room for it.
 fn push_within(out: &mut Vec<Token>, limit: usize, token: Token) -> Result<(), Pre>
     ensures ok { OnOk result (plain_tokens out.new.items ≡ plain_tokens out.old.items ++ plain token ∷ []) }
-    ensures full { result ≡ Err Pre.TooLong → limit ≤ length out.old.items }
-    ensures never { (line : ℕ) → result ≡ Err (Pre.Directive line) → ⊥ }
+    ensures full { IfErr result (λ e. e ≡ Pre.TooLong → limit ≤ length out.old.items) }
+    ensures never { IfErr result (λ e. (line : ℕ) → e ≡ Pre.Directive line → ⊥) }
     ensures within { length out.old.items ≤ limit → length out.new.items ≤ limit }
 {
     if out.len() >= limit {
@@ -223,6 +223,16 @@ fn expand_object(
     rescan(alloc, macros, levels, hidden, work, name.text.as_slice(), list.as_slice(), out, limit)
 }
 
+/// What an argument's expansion answers of the call: an argument may have any number of tokens.
+fn argument_error(e: Pre) -> Pre
+    ensures { result ≡ argument_error e }
+{
+    match e {
+        Pre::Directive(line) => Pre::Directive(line),
+        _ => Pre::Memory,
+    }
+}
+
 /// Expands each argument as a list of its own.
 #[cycle(replacement)]
 fn expand_arguments(
@@ -242,8 +252,7 @@ fn expand_arguments(
         let mut tokens = Vec::new(alloc);
         match expand_list(alloc, macros, levels, hidden, work, rest[0].as_slice(), &mut tokens, WORK as usize) {
             Ok(()) => {}
-            Err(Pre::Directive(line)) => return Err(Pre::Directive(line)),
-            Err(_) => return Err(Pre::Memory),
+            Err(e) => return Err(argument_error(e)),
         }
         let Ok(()) = push_list(&mut done, tokens) else {
             return Err(Pre::Memory);
