@@ -5,3 +5,5 @@ pub mod Arguments
 pub mod ArgumentLists
 pub mod Substitution
 pub mod Expanding
+pub mod Answering
+pub mod Expressions

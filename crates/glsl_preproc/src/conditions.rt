@@ -194,13 +194,14 @@ fn operand(levels: u32, list: &[Token]) -> Parsed
     if list.is_empty() {
         return Parsed::Wrong;
     }
+    let token = &list[0];
     let rest = list.split_at(1).1;
-    if opens(&list[0]) {
+    if opens(token) {
         return in_brackets(rest, expression(below, 10, rest));
     }
-    match sign_of(&list[0]) {
+    match sign_of(token) {
         Some(sign) => behind_sign(sign, operand(below, rest), rest.len()),
-        None => primary(&list[0]),
+        None => primary(token),
     }
 }
 
@@ -231,8 +232,9 @@ fn expression(levels: u32, level: u32, list: &[Token]) -> Parsed
     };
     let mut rest = list.split_at(count).1;
     while !rest.is_empty() {
-        let Some(op) = operator_at(level, &rest[0]) else {
-            return Parsed::Read(value, count);
+        let op = match operator_at(level, &rest[0]) {
+            Some(op) => op,
+            None => return Parsed::Read(value, count),
         };
         let tail = rest.split_at(1).1;
         match expression(levels, level - 1, tail) {
