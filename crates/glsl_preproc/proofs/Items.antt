@@ -1,5 +1,5 @@
 -- The first item of a list, and the others.
-use Rattle.std.proofs.Common.{◌≡◌, ◌<◌, ℕ, List, [], ◌∷◌, length, drop, get_or, map, refl, sym, ap, ◌∙◌, arith}
+use Rattle.std.proofs.Common.{◌≡◌, ◌<◌, ◌≤◌, ℕ, List, [], ◌∷◌, length, drop, get_or, map, refl, sym, ap, ◌∙◌, arith}
 use Rattle.std.proofs.lemmas.Bool.{eqb-true, eqb-false}
 use Rattle.std.proofs.Common.{eqb, Bool, true, false}
 use Rattle.glsl_tree.specs.Token.{PlainToken, plain, plain_tokens}
@@ -26,3 +26,8 @@ some_items xs b e h = let ne = eqb-false (length xs) 0 (sym e ∙ h) in omega ar
 
 pub none_left : {X : Type 0} (xs : List X) (b : Bool) → b ≡ eqb (length xs) 0 → b ≡ true → length xs ≡ 0
 none_left xs b e h = eqb-true (length xs) 0 (sym e ∙ h)
+
+pub one_item : {X : Type 0} (xs : List X) (x : X) → 1 ≤ length xs → length xs < 2 → x ≡ get_or xs 0 x → xs ≡ x ∷ []
+one_item [] x h k e = absurd (omega arith)
+one_item (a ∷ []) x h k e = λ i. sym e i ∷ []
+one_item (a ∷ b ∷ xs) x h k e = absurd (omega arith)

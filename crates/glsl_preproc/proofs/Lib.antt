@@ -7,3 +7,4 @@ pub mod Substitution
 pub mod Expanding
 pub mod Answering
 pub mod Expressions
+pub mod Defining

@@ -1,6 +1,9 @@
 -- What the code keeps of a directive, as the definitions see it.
 use Rattle.std.specs.Prelude.{ℕ, ◌≡◌, List, Option, Some, None, Bool, true, false}
-use Rattle.glsl_preproc.specs.Macros.{PlainMacro}
+use Rattle.std.specs.Prelude.{if◌then◌else◌}
+use Rattle.glsl_preproc.specs.Macros.{PlainMacro, same_macro}
+use Rattle.glsl_preproc.specs.declared.directives.Standing.{Standing}
+use Rattle.glsl_preproc.specs.declared.directives.Standing.TheVariants.{New, Same, Other}
 use Rattle.glsl_preproc.specs.Views.{texts}
 use Rattle.glsl_preproc.specs.declared.directives.Parameters.{Parameters}
 
@@ -12,3 +15,8 @@ names_of (Some p) = Some (texts p.names.items, p.count)
 abbrev pub Changes : Option (List PlainMacro) → List PlainMacro → Bool → Type 0
 Changes wanted new true = wanted ≡ Some new
 Changes wanted new false = wanted ≡ None
+
+-- what a macro is beside the one that has its name
+abbrev pub standing : PlainMacro → Option PlainMacro → Standing
+standing m None = New
+standing m (Some old) = if same_macro old m then Same else Other

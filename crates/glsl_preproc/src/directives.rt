@@ -1,15 +1,15 @@
 ghost use Rattle.std.specs.Prelude.{◌≡◌, ◌≤◌, ◌+◌, [], IfOk, IfSome, Some, None, not, ◌&&◌, length, codes};
 ghost use Rattle.std.specs.Option.{option_map};
-ghost use Rattle.std.specs.List.{list_any};
+ghost use Rattle.std.specs.List.{list_any, filter};
 ghost use Rattle.std.specs.Str.{bytes_eq};
 ghost use Rattle.glsl_tree.specs.Token.{plain, plain_tokens};
-ghost use Rattle.glsl_preproc.specs.Macros.{is_name_token};
+ghost use Rattle.glsl_preproc.specs.Macros.{is_name_token, find_macro};
 ghost use Rattle.glsl_preproc.specs.Directives.{kind_of_name, kind_of, parameters_from, parameters_at, macro_of, definition_of, after_define, after_undef, asked_defined, is_version, is_offered, is_extension, are_line_numbers};
 ghost use Rattle.glsl_preproc.specs.Views.{plain_macro, plain_macros, texts};
-ghost use Rattle.glsl_preproc.specs.DirectiveViews.{names_of, Changes};
+ghost use Rattle.glsl_preproc.specs.DirectiveViews.{names_of, standing, Changes};
 
 use crate::kinds::Kind;
-use crate::macro_table::{find_macro, is_defined, is_reserved, same_macro};
+use crate::macro_table::{find_macro, is_defined, is_reserved, same_macro, same_text};
 use crate::macros::Macro;
 use crate::tokens::{closes, copy_of, is_comma, is_int, is_name, is_params, is_text, push_name};
 use glsl_tree::Token;
@@ -181,15 +181,20 @@ fn definition_of(alloc: Global, list: &[Token]) -> Result<Option<Macro>, AllocEr
     macro_of(alloc, list[0].text.as_slice(), list.split_at(1).1)
 }
 
-/// Whether a macro has the name already, and is the same or another.
-enum Standing {
+/// Whether a macro has the name already.
+pub enum Standing {
+    /// None has.
     New,
+    /// The same macro has.
     Same,
+    /// Another macro has.
     Other,
 }
 
 /// What is known of the macro.
-fn standing_of(macros: &[Macro], m: &Macro) -> Standing {
+fn standing_of(macros: &[Macro], m: &Macro) -> Standing
+    ensures { result ≡ standing (plain_macro m.now) (find_macro (plain_macros macros.now) m.now.name.items) }
+{
     match find_macro(macros, m.name.as_slice()) {
         None => Standing::New,
         Some(old) => {
@@ -220,6 +225,13 @@ pub fn define(alloc: Global, macros: &mut Vec<Macro>, list: &[Token]) -> Result<
     }
 }
 
+/// Takes away the macro of a name.
+fn remove_macro(macros: &mut Vec<Macro>, name: &[u8])
+    ensures { macros.new.items ≡ filter (λ m. not (bytes_eq m.name.items name.now)) macros.old.items }
+{
+    macros.retain(|m| !same_text(m.name.as_slice(), name));
+}
+
 /// Does what an `#undef` says, and answers whether it may.
 #[tactic(auto, unfolding(crate::specs::Directives::after_undef))]
 pub fn undefine(macros: &mut Vec<Macro>, list: &[Token]) -> bool
@@ -227,7 +239,7 @@ pub fn undefine(macros: &mut Vec<Macro>, list: &[Token]) -> bool
 {
     match list {
         [name] if is_name(name) && !is_reserved(name.text.as_slice()) => {
-            macros.retain(|m| m.name.as_slice() != name.text.as_slice());
+            remove_macro(macros, name.text.as_slice());
             true
         }
         _ => false,
