@@ -8,20 +8,11 @@ use Rattle.glsl_preproc.specs.Macros.{PlainMacro, first_macros}
 use Rattle.glsl_preproc.specs.Replacement.{Outcome, End, Whole, Failed, Deeper, ended, expanded}
 use Rattle.glsl_preproc.specs.Conditions.{Judged, Yes, No, Fails, Unknown, condition}
 use Rattle.glsl_preproc.specs.Directives.{kind_of, is_hash_token, after_define, after_undef, asked_defined, is_version, is_extension, are_line_numbers}
+use Rattle.glsl_preproc.specs.declared.conditionals.Part.{Part}
+use Rattle.glsl_preproc.specs.declared.conditionals.Part.TheVariants.{Taken, Waiting, Passed}
+use Rattle.glsl_preproc.specs.declared.conditionals.Conditional.{Conditional}
 use Rattle.glsl_preproc.specs.declared.kinds.Kind.{Kind}
 use Rattle.glsl_preproc.specs.declared.kinds.Kind.TheVariants as kind
-
--- a part of a conditional: read; not read, as none before it was; not read, as one was
-pub data Part : Type 0 where
-  Taken : Part
-  Waiting : Part
-  Passed : Part
-
--- a conditional that is open: its part, whether its `#else` has come, and its line
-pub record Conditional : Type 0 where
-  pub part : Part
-  pub closing : Bool
-  pub line : ℕ
 
 -- What is known where a line begins: the macros; the conditionals that are open, the innermost first; how many more are
 -- open within lines that are not read; the text lines since the last directive; the tokens so far; and whether no token has come yet.
@@ -152,10 +143,6 @@ directive_step n s line kind.Version list fresh = unless (not (fresh && is_versi
 directive_step n s line kind.Line list fresh = line_step s line (expanded n s.macros [] [] list)
 directive_step n s line kind.Unknown list fresh = failing s line
 
-abbrev pub is_pragma : Kind → Bool
-is_pragma kind.Pragma = true
-is_pragma _ = false
-
 -- the first `#` of a list
 unfoldable pub stray_hash : List PlainToken → Option ℕ
 stray_hash [] = None
@@ -169,9 +156,14 @@ abbrev pub acting : ℕ → ℕ → Kind → List PlainToken → Bool → Option
 acting n line k list fresh (Some at) s = failing s at
 acting n line k list fresh None s = directive_step n s line k (behind_name list) fresh
 
+-- the `#` that fails in a directive of a kind
+abbrev pub failing_hash : Kind → List PlainToken → Option ℕ
+failing_hash kind.Pragma list = None
+failing_hash _ list = stray_hash list
+
 -- a directive with the tokens behind its `#`: one more `#` among them fails first, but in a `#pragma`
 unfoldable pub directive : ℕ → State → ℕ → List PlainToken → Bool → Step
-directive n s line list fresh = acting n line (kind_of list) list fresh (if is_pragma (kind_of list) then None else stray_hash list) s
+directive n s line list fresh = acting n line (kind_of list) list fresh (failing_hash (kind_of list) list) s
 
 -- Lines that are not read: of their directives those count that belong to the conditional, and the nesting of others.
 abbrev pub skipping_inner : State → Kind → Step
@@ -206,12 +198,19 @@ abbrev pub not_fresh : Step → Step
 not_fresh (Next s) = Next (record s { fresh = false })
 not_fresh (Stop o) = Stop o
 
+-- a directive where lines are read, and where they are not
+abbrev pub read_step : ℕ → State → ℕ → List PlainToken → Step
+read_step n s line list = not_fresh (and_then (flushed n s) (λ f. directive n f line list s.fresh))
+
+abbrev pub skipped_step : ℕ → State → ℕ → List PlainToken → Step
+skipped_step n s line list = not_fresh (skipping n s line list)
+
 -- One line, without its line end. A directive is a line that begins with `#`.
 unfoldable pub line_of : ℕ → State → List PlainToken → Step
 line_of n s [] = Next s
 line_of n s (t ∷ rest) =
     if is_hash_token t then
-      (if is_read s then not_fresh (and_then (flushed n s) (λ f. directive n f t.line rest s.fresh)) else not_fresh (skipping n s t.line rest))
+      (if is_read s then read_step n s t.line rest else skipped_step n s t.line rest)
     else (if is_read s then text_step n s (t ∷ rest) (stray_hash (t ∷ rest)) else Next (record s { fresh = false }))
 
 -- the line of the outermost conditional that is open
@@ -224,12 +223,12 @@ abbrev pub ended_in : State → List Conditional → Step
 ended_in s [] = Stop (ended s.tokens Whole)
 ended_in s (c ∷ outer) = failing s (outermost c.line outer)
 
+abbrev pub outcome_of : Step → Outcome
+outcome_of (Stop o) = o
+outcome_of (Next s) = ended s.tokens Whole
+
 unfoldable pub finished : ℕ → State → Outcome
 finished n s = outcome_of (and_then (flushed n s) (λ f. ended_in f f.conditionals))
-  where
-    outcome_of : Step → Outcome
-    outcome_of (Stop o) = o
-    outcome_of (Next f) = ended f.tokens Whole
 
 abbrev pub is_new_line : Class → Bool
 is_new_line NewLine = true

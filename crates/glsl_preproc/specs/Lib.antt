@@ -7,3 +7,4 @@ pub mod Expansion
 pub mod Views
 pub mod ConditionViews
 pub mod DirectiveViews
+pub mod ReaderViews

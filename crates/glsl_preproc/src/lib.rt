@@ -2,6 +2,7 @@
 #![tactic(auto)]
 
 mod calls;
+mod conditionals;
 mod conditions;
 mod directives;
 mod errors;

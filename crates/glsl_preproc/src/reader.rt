@@ -1,3 +1,8 @@
+ghost use Rattle.std.specs.Prelude.{◌≡◌};
+ghost use Rattle.glsl_tree.specs.Token.{plain_tokens};
+ghost use Rattle.glsl_preproc.specs.Expansion.{stray_hash, other_part, failing_hash, behind_name, before_hash};
+
+use crate::conditionals::{Conditional, Part};
 use crate::conditions::{Judged, condition};
 use crate::directives::{are_line_numbers, asked_defined, define, is_extension, is_version, kind_of, undefine};
 use crate::errors::Pre;
@@ -5,7 +10,7 @@ use crate::kinds::Kind;
 use crate::macro_table::first_macros;
 use crate::macros::Macro;
 use crate::replacement::{WORK, expand_list};
-use crate::tokens::{copy_of, is_hash};
+use crate::tokens::{append_copies, is_hash};
 use glsl_tree::Token;
 use std::alloc::{AllocError, Global};
 
@@ -14,28 +19,6 @@ pub const LEVELS: u32 = 1024;
 
 /// The most tokens of an expansion, 131,072.
 pub const LONGEST: usize = 131_072;
-
-/// A part of a conditional (GLSL ES 1.00.17 section 3.4).
-#[derive(Clone, Copy, Debug)]
-pub enum Part {
-    /// It is read.
-    Taken,
-    /// It is not read, as no part before it was.
-    Waiting,
-    /// It is not read, as a part before it was.
-    Passed,
-}
-
-/// A conditional that is open.
-#[derive(Clone, Copy, Debug)]
-pub struct Conditional {
-    /// The part that its lines belong to.
-    pub part: Part,
-    /// Whether its `#else` has come.
-    pub closing: bool,
-    /// The line of its `#if`, `#ifdef` or `#ifndef`.
-    pub line: u32,
-}
 
 /// What is known where a line begins.
 #[derive(Drop)]
@@ -57,13 +40,78 @@ pub struct Reader {
 }
 
 /// The line of the first `#` of a list.
-fn stray_hash(list: &[Token]) -> Option<u32> {
-    list.iter().find(|token| is_hash(token)).map(|token| token.line)
+fn stray_hash(list: &[Token]) -> Option<u32>
+    ensures { result ≡ stray_hash (plain_tokens list.now) }
+{
+    let mut rest = list;
+    while !rest.is_empty() {
+        let token = &rest[0];
+        if is_hash(token) {
+            return Some(token.line);
+        }
+        rest = rest.split_at(1).1;
+    }
+    None
+}
+
+/// The part that an `#else` begins.
+fn other_part(part: Part) -> Part
+    ensures { result ≡ other_part part }
+{
+    match part {
+        Part::Waiting => Part::Taken,
+        _ => Part::Passed,
+    }
+}
+
+/// The line of the `#` that fails in a directive of a kind.
+fn failing_hash(kind: Kind, list: &[Token]) -> Option<u32>
+    ensures { result ≡ failing_hash kind (plain_tokens list.now) }
+{
+    match kind {
+        Kind::Pragma => None,
+        _ => stray_hash(list),
+    }
+}
+
+/// The tokens behind a directive's name.
+fn behind_name(list: &[Token]) -> &[Token]
+    ensures { plain_tokens result.now ≡ behind_name (plain_tokens list.now) }
+{
+    match list {
+        [_, rest @ ..] => rest,
+        [] => list,
+    }
+}
+
+/// The tokens before the first `#`.
+fn before_hash(list: &[Token]) -> &[Token]
+    ensures { plain_tokens result.now ≡ before_hash (plain_tokens list.now) }
+{
+    let mut count = 0;
+    while count < list.len() {
+        if is_hash(&list[count]) {
+            break;
+        }
+        count += 1;
+    }
+    list.split_at(count).0
 }
 
 impl Reader {
+    ghost use Rattle.std.specs.Prelude.{◌≡◌, ◌≤◌, ◌<◌, ◌==◌, ◌+◌, ◌^◌, Bool, true, false, [], ◌++◌, IfOk, OnOk, length};
+    ghost use Rattle.glsl_tree.specs.Token.{plain_tokens};
+    ghost use Rattle.glsl_preproc.specs.Conditions.{condition};
+    ghost use Rattle.glsl_preproc.specs.Directives.{asked_defined, after_define};
+    ghost use Rattle.glsl_preproc.specs.Expansion.{at_start, is_read, flushed, opened, opened_if, opened_ifdef, elif_step, elif_judged, with_part, else_step, endif_step, with_macros, line_step, directive_step, directive, skipping_inner, skipping_outer, skipping, read_step, skipped_step, text_step, stray_hash, line_of, finished};
+    ghost use Rattle.glsl_preproc.specs.Replacement.{expanded};
+    ghost use Rattle.glsl_preproc.specs.ReaderViews.{state_of, Steps, Finishes};
     /// Before the first line.
-    pub fn new(alloc: Global) -> Result<Self, AllocError> {
+    #[tactic(auto, unfolding(crate::specs::Expansion::at_start))]
+    pub fn new(alloc: Global) -> Result<Self, AllocError>
+        ensures start { IfOk result (λ r. state_of r ≡ at_start) }
+        ensures within { IfOk result (λ r. length r.tokens.items ≤ 131072) }
+    {
         Ok(Reader {
             macros: first_macros(alloc)?,
             conditionals: Vec::new(alloc),
@@ -76,7 +124,9 @@ impl Reader {
     }
 
     /// Whether lines are read.
-    fn is_read(&self) -> bool {
+    fn is_read(&self) -> bool
+        ensures { result ≡ is_read (state_of self.now) }
+    {
         self.skipped == 0
             && match self.conditionals.last() {
                 None => true,
@@ -85,7 +135,12 @@ impl Reader {
     }
 
     /// Expands the text lines since the last directive.
-    pub fn flush(&mut self, alloc: Global) -> Result<(), Pre> {
+    #[tactic(auto, unfolding(crate::specs::Expansion::flushed))]
+    pub fn flush(&mut self, alloc: Global) -> Result<(), Pre>
+        requires { length self.old.tokens.items ≤ 131072 }
+        ensures step { Steps (flushed 1024 (state_of self.old)) (state_of self.new) result }
+        ensures within { length self.new.tokens.items ≤ 131072 }
+    {
         let mut hidden = Vec::new(alloc);
         match expand_list(
             alloc,
@@ -105,7 +160,11 @@ impl Reader {
     }
 
     /// Begins a conditional, whose first part is read or not.
-    fn open(&mut self, reads: bool, line: u32) -> Result<(), Pre> {
+    fn open(&mut self, reads: bool, line: u32) -> Result<(), Pre>
+        requires { length self.old.tokens.items ≤ 131072 }
+        ensures step { Steps (opened (state_of self.old) line reads) (state_of self.new) result }
+        ensures within { length self.new.tokens.items ≤ 131072 }
+    {
         let part = if reads { Part::Taken } else { Part::Waiting };
         let Ok(()) = self.conditionals.push(Conditional {
             part,
@@ -118,7 +177,11 @@ impl Reader {
     }
 
     /// `#if`
-    fn open_if(&mut self, alloc: Global, line: u32, list: &[Token]) -> Result<(), Pre> {
+    fn open_if(&mut self, alloc: Global, line: u32, list: &[Token]) -> Result<(), Pre>
+        requires { length self.old.tokens.items ≤ 131072 }
+        ensures step { Steps (opened_if (state_of self.old) line (condition 1024 (state_of self.old).macros (plain_tokens list.now))) (state_of self.new) result }
+        ensures within { length self.new.tokens.items ≤ 131072 }
+    {
         match condition(alloc, self.macros.as_slice(), LEVELS, &mut self.work, list) {
             Judged::Yes => self.open(true, line),
             Judged::No => self.open(false, line),
@@ -128,7 +191,11 @@ impl Reader {
     }
 
     /// `#ifdef`, or `#ifndef` where the name is wanted not to be defined.
-    fn open_ifdef(&mut self, line: u32, wanted: bool, list: &[Token]) -> Result<(), Pre> {
+    fn open_ifdef(&mut self, line: u32, wanted: bool, list: &[Token]) -> Result<(), Pre>
+        requires { length self.old.tokens.items ≤ 131072 }
+        ensures step { Steps (opened_ifdef (state_of self.old) line wanted (asked_defined (state_of self.old).macros (plain_tokens list.now))) (state_of self.new) result }
+        ensures within { length self.new.tokens.items ≤ 131072 }
+    {
         match asked_defined(self.macros.as_slice(), list) {
             None => Err(Pre::Directive(line)),
             Some(found) => self.open(found == wanted, line),
@@ -136,27 +203,43 @@ impl Reader {
     }
 
     /// `#elif`
-    fn elif(&mut self, alloc: Global, line: u32, list: &[Token]) -> Result<(), Pre> {
+    fn elif(&mut self, alloc: Global, line: u32, list: &[Token]) -> Result<(), Pre>
+        requires { length self.old.tokens.items ≤ 131072 }
+        ensures step { Steps (elif_step 1024 (state_of self.old) line (plain_tokens list.now) (state_of self.old).conditionals) (state_of self.new) result }
+        ensures within { length self.new.tokens.items ≤ 131072 }
+    {
         let Some(c) = self.conditionals.pop() else {
             return Err(Pre::Directive(line));
         };
         if c.closing {
             return Err(Pre::Directive(line));
         }
-        let part = match c.part {
-            Part::Waiting => match condition(alloc, self.macros.as_slice(), LEVELS, &mut self.work, list) {
-                Judged::Yes => Part::Taken,
-                Judged::No => Part::Waiting,
-                Judged::Fails => return Err(Pre::Directive(line)),
-                Judged::Unknown => return Err(Pre::Memory),
-            },
-            _ => Part::Passed,
-        };
-        self.put_back(c, part, false)
+        match c.part {
+            Part::Waiting => self.elif_judged(alloc, line, list, c),
+            _ => self.put_back(c, Part::Passed, false),
+        }
+    }
+
+    /// `#elif`, where no part was read before.
+    fn elif_judged(&mut self, alloc: Global, line: u32, list: &[Token], c: Conditional) -> Result<(), Pre>
+        requires { length self.old.tokens.items ≤ 131072 }
+        ensures step { Steps (elif_judged (state_of self.old) line c (state_of self.old).conditionals (condition 1024 (state_of self.old).macros (plain_tokens list.now))) (state_of self.new) result }
+        ensures within { length self.new.tokens.items ≤ 131072 }
+    {
+        match condition(alloc, self.macros.as_slice(), LEVELS, &mut self.work, list) {
+            Judged::Yes => self.put_back(c, Part::Taken, false),
+            Judged::No => self.put_back(c, Part::Waiting, false),
+            Judged::Fails => Err(Pre::Directive(line)),
+            Judged::Unknown => Err(Pre::Memory),
+        }
     }
 
     /// The innermost conditional goes on with another part.
-    fn put_back(&mut self, c: Conditional, part: Part, closing: bool) -> Result<(), Pre> {
+    fn put_back(&mut self, c: Conditional, part: Part, closing: bool) -> Result<(), Pre>
+        requires { length self.old.tokens.items ≤ 131072 }
+        ensures step { Steps (with_part (state_of self.old) c (state_of self.old).conditionals part closing) (state_of self.new) result }
+        ensures within { length self.new.tokens.items ≤ 131072 }
+    {
         let Ok(()) = self.conditionals.push(Conditional {
             part,
             closing,
@@ -168,7 +251,11 @@ impl Reader {
     }
 
     /// `#else`
-    fn otherwise(&mut self, line: u32, list: &[Token]) -> Result<(), Pre> {
+    fn otherwise(&mut self, line: u32, list: &[Token]) -> Result<(), Pre>
+        requires { length self.old.tokens.items ≤ 131072 }
+        ensures step { Steps (else_step (state_of self.old) line (plain_tokens list.now) (state_of self.old).conditionals) (state_of self.new) result }
+        ensures within { length self.new.tokens.items ≤ 131072 }
+    {
         if !list.is_empty() {
             return Err(Pre::Directive(line));
         }
@@ -178,15 +265,15 @@ impl Reader {
         if c.closing {
             return Err(Pre::Directive(line));
         }
-        let part = match c.part {
-            Part::Waiting => Part::Taken,
-            _ => Part::Passed,
-        };
-        self.put_back(c, part, true)
+        self.put_back(c, other_part(c.part), true)
     }
 
     /// `#endif`
-    fn endif(&mut self, line: u32, list: &[Token]) -> Result<(), Pre> {
+    fn endif(&mut self, line: u32, list: &[Token]) -> Result<(), Pre>
+        requires { length self.old.tokens.items ≤ 131072 }
+        ensures step { Steps (endif_step (state_of self.old) line (plain_tokens list.now) (state_of self.old).conditionals) (state_of self.new) result }
+        ensures within { length self.new.tokens.items ≤ 131072 }
+    {
         if !list.is_empty() {
             return Err(Pre::Directive(line));
         }
@@ -197,7 +284,11 @@ impl Reader {
     }
 
     /// `#define`
-    fn define(&mut self, alloc: Global, line: u32, list: &[Token]) -> Result<(), Pre> {
+    fn define(&mut self, alloc: Global, line: u32, list: &[Token]) -> Result<(), Pre>
+        requires { length self.old.tokens.items ≤ 131072 }
+        ensures step { Steps (with_macros (state_of self.old) line (after_define (state_of self.old).macros (plain_tokens list.now))) (state_of self.new) result }
+        ensures within { length self.new.tokens.items ≤ 131072 }
+    {
         match define(alloc, &mut self.macros, list) {
             Ok(true) => Ok(()),
             Ok(false) => Err(Pre::Directive(line)),
@@ -206,7 +297,11 @@ impl Reader {
     }
 
     /// `#line`
-    fn line(&mut self, alloc: Global, line: u32, list: &[Token]) -> Result<(), Pre> {
+    fn line(&mut self, alloc: Global, line: u32, list: &[Token]) -> Result<(), Pre>
+        requires { length self.old.tokens.items ≤ 131072 }
+        ensures step { Steps (line_step (state_of self.old) line (expanded 1024 (state_of self.old).macros [] [] (plain_tokens list.now))) (state_of self.new) result }
+        ensures within { length self.new.tokens.items ≤ 131072 }
+    {
         let mut hidden = Vec::new(alloc);
         let mut tokens = Vec::new(alloc);
         match expand_list(
@@ -227,7 +322,12 @@ impl Reader {
     }
 
     /// A directive of a kind, of a line, with the tokens behind its name.
-    fn act(&mut self, alloc: Global, line: u32, kind: Kind, list: &[Token], fresh: bool) -> Result<(), Pre> {
+    #[tactic(auto, unfolding(crate::specs::Expansion::directive_step))]
+    fn act(&mut self, alloc: Global, line: u32, kind: Kind, list: &[Token], fresh: bool) -> Result<(), Pre>
+        requires { length self.old.tokens.items ≤ 131072 }
+        ensures step { Steps (directive_step 1024 (state_of self.old) line kind (plain_tokens list.now) fresh) (state_of self.new) result }
+        ensures within { length self.new.tokens.items ≤ 131072 }
+    {
         let holds = match kind {
             Kind::Empty | Kind::Pragma => true,
             Kind::Error | Kind::Unknown => false,
@@ -247,79 +347,176 @@ impl Reader {
     }
 
     /// A directive with the tokens behind its `#`. One more `#` among them fails first, but in a `#pragma`.
-    fn directive(&mut self, alloc: Global, line: u32, list: &[Token], fresh: bool) -> Result<(), Pre> {
+    #[tactic(auto, unfolding(crate::specs::Expansion::directive))]
+    fn directive(&mut self, alloc: Global, line: u32, list: &[Token], fresh: bool) -> Result<(), Pre>
+        requires { length self.old.tokens.items ≤ 131072 }
+        ensures step { Steps (directive 1024 (state_of self.old) line (plain_tokens list.now) fresh) (state_of self.new) result }
+        ensures within { length self.new.tokens.items ≤ 131072 }
+    {
         let kind = kind_of(list);
-        if matches!(kind, Kind::Pragma) {
-            return Ok(());
+        match failing_hash(kind, list) {
+            Some(at) => Err(Pre::Directive(at)),
+            None => self.act(alloc, line, kind, behind_name(list), fresh),
         }
-        if let Some(at) = stray_hash(list) {
-            return Err(Pre::Directive(at));
-        }
-        let behind = if list.is_empty() { list } else { list.split_at(1).1 };
-        self.act(alloc, line, kind, behind, fresh)
     }
 
-    /// A directive within lines that are not read.
-    fn skip(&mut self, alloc: Global, line: u32, list: &[Token]) -> Result<(), Pre> {
-        match kind_of(list) {
-            Kind::If | Kind::Ifdef | Kind::Ifndef => self.skipped += 1,
-            Kind::Endif if self.skipped > 0 => self.skipped -= 1,
-            Kind::Elif | Kind::Else | Kind::Endif if self.skipped == 0 => {
-                return self.directive(alloc, line, list, false);
+    /// A directive within lines that are not read, in a conditional that stands in them.
+    fn skip_inner(&mut self, kind: Kind) -> Result<(), Pre>
+        requires { length self.old.tokens.items ≤ 131072 }
+        ensures step { Steps (skipping_inner (state_of self.old) kind) (state_of self.new) result }
+        ensures within { length self.new.tokens.items ≤ 131072 }
+    {
+        match kind {
+            Kind::If | Kind::Ifdef | Kind::Ifndef => {
+                let Some(skipped) = self.skipped.checked_add(1) else {
+                    return Err(Pre::Memory);
+                };
+                self.skipped = skipped;
             }
+            Kind::Endif => self.skipped = self.skipped.saturating_sub(1),
             _ => {}
         }
         Ok(())
     }
 
-    /// A text line. A `#` in it fails, once the tokens before it are expanded.
-    fn add_text(&mut self, alloc: Global, list: &[Token]) -> Result<(), Pre> {
-        let mut rest = list;
-        while !rest.is_empty() {
-            if is_hash(&rest[0]) {
-                self.flush(alloc)?;
-                return Err(Pre::Directive(rest[0].line));
+    /// A directive within lines that are not read, in the conditional that skips them.
+    fn skip_outer(&mut self, alloc: Global, line: u32, list: &[Token], kind: Kind) -> Result<(), Pre>
+        requires { length self.old.tokens.items ≤ 131072 }
+        ensures step { Steps (skipping_outer 1024 (state_of self.old) line (plain_tokens list.now) kind) (state_of self.new) result }
+        ensures within { length self.new.tokens.items ≤ 131072 }
+    {
+        match kind {
+            Kind::If | Kind::Ifdef | Kind::Ifndef => {
+                self.skipped = 1;
+                Ok(())
             }
-            let Ok(copy) = copy_of(alloc, &rest[0]) else {
-                return Err(Pre::Memory);
-            };
-            let Ok(()) = self.text.push(copy) else {
-                return Err(Pre::Memory);
-            };
-            rest = rest.split_at(1).1;
+            Kind::Elif | Kind::Else | Kind::Endif => self.directive(alloc, line, list, false),
+            _ => Ok(()),
         }
-        Ok(())
+    }
+
+    /// A directive within lines that are not read.
+    fn skip(&mut self, alloc: Global, line: u32, list: &[Token]) -> Result<(), Pre>
+        requires { length self.old.tokens.items ≤ 131072 }
+        ensures step { Steps (skipping 1024 (state_of self.old) line (plain_tokens list.now)) (state_of self.new) result }
+        ensures within { length self.new.tokens.items ≤ 131072 }
+    {
+        let kind = kind_of(list);
+        if self.skipped == 0 {
+            self.skip_outer(alloc, line, list, kind)
+        } else {
+            self.skip_inner(kind)
+        }
+    }
+
+    /// Adds tokens to those of the text lines.
+    fn append_text(&mut self, alloc: Global, list: &[Token]) -> Result<(), AllocError>
+        ensures text { OnOk result (state_of self.new ≡ record (state_of self.old) { text = (state_of self.old).text ++ plain_tokens list.now }) }
+        ensures same { self.new.tokens.items ≡ self.old.tokens.items }
+    {
+        append_copies(alloc, &mut self.text, list)
+    }
+
+    /// A text line. A `#` in it fails, once the tokens before it are expanded.
+    fn add_text(&mut self, alloc: Global, list: &[Token]) -> Result<(), Pre>
+        requires { length self.old.tokens.items ≤ 131072 }
+        ensures step { Steps (text_step 1024 (state_of self.old) (plain_tokens list.now) (stray_hash (plain_tokens list.now))) (state_of self.new) result }
+        ensures within { length self.new.tokens.items ≤ 131072 }
+    {
+        match stray_hash(list) {
+            None => {
+                let Ok(()) = self.append_text(alloc, list) else {
+                    return Err(Pre::Memory);
+                };
+                self.fresh = false;
+                Ok(())
+            }
+            Some(at) => {
+                let Ok(()) = self.append_text(alloc, before_hash(list)) else {
+                    return Err(Pre::Memory);
+                };
+                match self.flush(alloc) {
+                    Ok(()) => Err(Pre::Directive(at)),
+                    Err(e) => Err(e),
+                }
+            }
+        }
+    }
+
+    /// A directive in lines that are read.
+    fn read_directive(&mut self, alloc: Global, line: u32, list: &[Token]) -> Result<(), Pre>
+        requires { length self.old.tokens.items ≤ 131072 }
+        ensures step { Steps (read_step 1024 (state_of self.old) line (plain_tokens list.now)) (state_of self.new) result }
+        ensures within { length self.new.tokens.items ≤ 131072 }
+    {
+        let fresh = self.fresh;
+        match self.flush(alloc) {
+            Ok(()) => {}
+            Err(e) => return Err(e),
+        }
+        match self.directive(alloc, line, list, fresh) {
+            Ok(()) => {
+                self.fresh = false;
+                Ok(())
+            }
+            Err(e) => Err(e),
+        }
+    }
+
+    /// A directive in lines that are not read.
+    fn skip_directive(&mut self, alloc: Global, line: u32, list: &[Token]) -> Result<(), Pre>
+        requires { length self.old.tokens.items ≤ 131072 }
+        ensures step { Steps (skipped_step 1024 (state_of self.old) line (plain_tokens list.now)) (state_of self.new) result }
+        ensures within { length self.new.tokens.items ≤ 131072 }
+    {
+        match self.skip(alloc, line, list) {
+            Ok(()) => {
+                self.fresh = false;
+                Ok(())
+            }
+            Err(e) => Err(e),
+        }
     }
 
     /// One line, without its line end. A directive is a line that begins with `#`.
-    pub fn line_of(&mut self, alloc: Global, list: &[Token]) -> Result<(), Pre> {
+    #[tactic(auto, unfolding(crate::specs::Expansion::line_of))]
+    pub fn line_of(&mut self, alloc: Global, list: &[Token]) -> Result<(), Pre>
+        requires { length self.old.tokens.items ≤ 131072 }
+        ensures step { Steps (line_of 1024 (state_of self.old) (plain_tokens list.now)) (state_of self.new) result }
+        ensures within { length self.new.tokens.items ≤ 131072 }
+    {
         if list.is_empty() {
             return Ok(());
         }
-        let fresh = self.fresh;
-        self.fresh = false;
         let first = &list[0];
         let rest = list.split_at(1).1;
         if is_hash(first) {
             if self.is_read() {
-                self.flush(alloc)?;
-                self.directive(alloc, first.line, rest, fresh)
-            } else {
-                self.skip(alloc, first.line, rest)
+                return self.read_directive(alloc, first.line, rest);
             }
-        } else if self.is_read() {
-            self.add_text(alloc, list)
-        } else {
-            Ok(())
+            return self.skip_directive(alloc, first.line, rest);
         }
+        if self.is_read() {
+            return self.add_text(alloc, list);
+        }
+        self.fresh = false;
+        Ok(())
     }
 
     /// The end: the text lines are expanded, and a conditional that is open fails.
-    pub fn finish(&mut self, alloc: Global) -> Result<(), Pre> {
-        self.flush(alloc)?;
-        match self.conditionals.first() {
-            None => Ok(()),
-            Some(c) => Err(Pre::Directive(c.line)),
+    #[tactic(auto, unfolding(crate::specs::Expansion::finished))]
+    pub fn finish(&mut self, alloc: Global) -> Result<(), Pre>
+        requires { length self.old.tokens.items ≤ 131072 }
+        ensures outcome { Finishes (finished 1024 (state_of self.old)) (plain_tokens self.new.tokens.items) result }
+        ensures within { length self.new.tokens.items ≤ 131072 }
+    {
+        match self.flush(alloc) {
+            Ok(()) => {}
+            Err(e) => return Err(e),
+        }
+        match self.conditionals.as_slice() {
+            [] => Ok(()),
+            [c, ..] => Err(Pre::Directive(c.line)),
         }
     }
 }

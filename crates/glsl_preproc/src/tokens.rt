@@ -149,6 +149,16 @@ pub fn append_at_line(
     Ok(())
 }
 
+/// Adds copies of tokens.
+pub fn append_copies(alloc: Global, out: &mut Vec<Token>, tokens: &[Token]) -> Result<(), AllocError>
+    ensures { OnOk result (plain_tokens out.new.items ≡ plain_tokens out.old.items ++ plain_tokens tokens.now) }
+{
+    for token in tokens {
+        out.push(copy_of(alloc, token)?)?;
+    }
+    Ok(())
+}
+
 /// The number of the token's line, as a token.
 pub fn line_number(alloc: Global, token: &Token) -> Result<Token, AllocError>
     ensures { IfOk result (λ number. plain number ≡ line_number (plain token.now)) }
