@@ -8,3 +8,4 @@ pub mod Expanding
 pub mod Answering
 pub mod Expressions
 pub mod Defining
+pub mod Lines

@@ -1,5 +1,7 @@
 -- What the reader keeps, as the definitions see it.
-use Rattle.std.specs.Prelude.{ℕ, ◌≡◌, ◌<◌, ◌≤◌, List, reverse, length, Result, Ok, Err}
+use Rattle.std.specs.declared.alloc.Global.{Global}
+use Rattle.glsl_tree.specs.declared.token.Token.{Token}
+use Rattle.std.specs.Prelude.{Vec, ℕ, ◌≡◌, ◌<◌, ◌≤◌, List, reverse, length, Result, Ok, Err}
 use Rattle.glsl_tree.specs.Token.{PlainToken, plain_tokens}
 use Rattle.glsl_preproc.specs.Replacement.{Outcome, Failed, Whole, ended}
 use Rattle.glsl_preproc.specs.Expansion.{State, Step, Next, Stop, expansion, Expansion}
@@ -36,3 +38,10 @@ Finishes o new (Ok x) = o ≡ ended new Whole
 Finishes o new (Err (pre.Directive line)) = o ≡ ended new (Failed line)
 Finishes o new (Err pre.TooLong) = 131072 < length o.tokens
 Finishes o new (Err pre.Memory) = Unit {0}
+
+-- The answer is the expansion's, unless memory is wanting. An expansion of at most 131,072 tokens up to its end is answered, and a longer one is too long.
+abbrev pub Answers : List PlainToken → Result (Vec Token Global) Pre → Type 0
+Answers source (Ok v) = Expansion source (plain_tokens v.items) Whole × (length v.items ≤ 131072)
+Answers source (Err (pre.Directive line)) = (done : List PlainToken) × Expansion source done (Failed line) × (length done ≤ 131072)
+Answers source (Err pre.TooLong) = (n : ℕ) × (131072 < length (expansion n source).tokens)
+Answers source (Err pre.Memory) = Unit {0}

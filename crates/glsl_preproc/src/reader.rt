@@ -1,4 +1,4 @@
-ghost use Rattle.std.specs.Prelude.{◌≡◌};
+ghost use Rattle.std.specs.Prelude.{◌≡◌, ◌++◌, OnOk};
 ghost use Rattle.glsl_tree.specs.Token.{plain_tokens};
 ghost use Rattle.glsl_preproc.specs.Expansion.{stray_hash, other_part, failing_hash, behind_name, before_hash};
 
@@ -10,7 +10,7 @@ use crate::kinds::Kind;
 use crate::macro_table::first_macros;
 use crate::macros::Macro;
 use crate::replacement::{WORK, expand_list};
-use crate::tokens::{append_copies, is_hash};
+use crate::tokens::{append_copies, is_hash, push_copy};
 use glsl_tree::Token;
 use std::alloc::{AllocError, Global};
 
@@ -84,18 +84,20 @@ fn behind_name(list: &[Token]) -> &[Token]
     }
 }
 
-/// The tokens before the first `#`.
-fn before_hash(list: &[Token]) -> &[Token]
-    ensures { plain_tokens result.now ≡ before_hash (plain_tokens list.now) }
+/// Adds copies of the tokens before the first `#`.
+fn append_before_hash(alloc: Global, out: &mut Vec<Token>, list: &[Token]) -> Result<(), AllocError>
+    ensures { OnOk result (plain_tokens out.new.items ≡ plain_tokens out.old.items ++ before_hash (plain_tokens list.now)) }
 {
-    let mut count = 0;
-    while count < list.len() {
-        if is_hash(&list[count]) {
-            break;
+    let mut rest = list;
+    while !rest.is_empty() {
+        let token = &rest[0];
+        if is_hash(token) {
+            return Ok(());
         }
-        count += 1;
+        push_copy(alloc, out, token)?;
+        rest = rest.split_at(1).1;
     }
-    list.split_at(count).0
+    Ok(())
 }
 
 impl Reader {
@@ -103,7 +105,7 @@ impl Reader {
     ghost use Rattle.glsl_tree.specs.Token.{plain_tokens};
     ghost use Rattle.glsl_preproc.specs.Conditions.{condition};
     ghost use Rattle.glsl_preproc.specs.Directives.{asked_defined, after_define};
-    ghost use Rattle.glsl_preproc.specs.Expansion.{at_start, is_read, flushed, opened, opened_if, opened_ifdef, elif_step, elif_judged, with_part, else_step, endif_step, with_macros, line_step, directive_step, directive, skipping_inner, skipping_outer, skipping, read_step, skipped_step, text_step, stray_hash, line_of, finished};
+    ghost use Rattle.glsl_preproc.specs.Expansion.{at_start, is_read, flushed, opened, opened_if, opened_ifdef, elif_step, elif_judged, with_part, else_step, endif_step, with_macros, line_step, directive_step, directive, skipping_inner, skipping_outer, skipping, read_step, skipped_step, text_step, stray_hash, before_hash, line_of, finished};
     ghost use Rattle.glsl_preproc.specs.Replacement.{expanded};
     ghost use Rattle.glsl_preproc.specs.ReaderViews.{state_of, Steps, Finishes};
     /// Before the first line.
@@ -417,6 +419,14 @@ impl Reader {
         append_copies(alloc, &mut self.text, list)
     }
 
+    /// Adds the tokens before the first `#` to those of the text lines.
+    fn append_text_before_hash(&mut self, alloc: Global, list: &[Token]) -> Result<(), AllocError>
+        ensures text { OnOk result (state_of self.new ≡ record (state_of self.old) { text = (state_of self.old).text ++ before_hash (plain_tokens list.now) }) }
+        ensures same { self.new.tokens.items ≡ self.old.tokens.items }
+    {
+        append_before_hash(alloc, &mut self.text, list)
+    }
+
     /// A text line. A `#` in it fails, once the tokens before it are expanded.
     fn add_text(&mut self, alloc: Global, list: &[Token]) -> Result<(), Pre>
         requires { length self.old.tokens.items ≤ 131072 }
@@ -432,7 +442,7 @@ impl Reader {
                 Ok(())
             }
             Some(at) => {
-                let Ok(()) = self.append_text(alloc, before_hash(list)) else {
+                let Ok(()) = self.append_text_before_hash(alloc, list) else {
                     return Err(Pre::Memory);
                 };
                 match self.flush(alloc) {

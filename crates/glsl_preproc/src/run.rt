@@ -1,4 +1,6 @@
 ghost use Rattle.std.specs.Prelude.{◌≤◌, length};
+ghost use Rattle.glsl_tree.specs.Token.{plain_tokens};
+ghost use Rattle.glsl_preproc.specs.ReaderViews.{Answers};
 
 use crate::errors::Pre;
 use crate::reader::Reader;
@@ -6,32 +8,35 @@ use crate::tokens::is_line_end;
 use glsl_tree::Token;
 use std::alloc::Global;
 
-/// How many tokens stand before the next line end.
-fn line_len(list: &[Token]) -> usize
-    ensures { result ≤ length list.now }
+/// The tokens of a shader behind its directives and macros (GLSL ES 1.00.17 section 3.4). Unless memory is wanting,
+/// the answer is that of the definition: its tokens, the line at which it fails, or that it has more than 131,072
+/// tokens before it ends or fails.
+pub fn expand(alloc: Global, tokens: &[Token]) -> Result<Vec<Token>, Pre>
+    ensures { Answers (plain_tokens tokens.now) result }
 {
-    let mut count = 0;
-    while count < list.len() && !is_line_end(&list[count]) {
-        count += 1;
-    }
-    count
-}
-
-/// The tokens of a shader behind its directives and macros (GLSL ES 1.00.17 section 3.4).
-pub fn expand(alloc: Global, tokens: &[Token]) -> Result<Vec<Token>, Pre> {
     let Ok(mut reader) = Reader::new(alloc) else {
         return Err(Pre::Memory);
     };
     let mut rest = tokens;
-    loop {
-        let count = line_len(rest);
-        let (line, tail) = rest.split_at(count);
-        reader.line_of(alloc, line)?;
-        if tail.is_empty() {
-            break;
+    let mut count = 0;
+    while count < rest.len() {
+        if is_line_end(&rest[count]) {
+            match reader.line_of(alloc, rest.split_at(count).0) {
+                Ok(()) => {}
+                Err(e) => return Err(e),
+            }
+            rest = rest.split_at(count + 1).1;
+            count = 0;
+        } else {
+            count += 1;
         }
-        rest = tail.split_at(1).1;
     }
-    reader.finish(alloc)?;
-    Ok(reader.tokens)
+    match reader.line_of(alloc, rest) {
+        Ok(()) => {}
+        Err(e) => return Err(e),
+    }
+    match reader.finish(alloc) {
+        Ok(()) => Ok(reader.tokens),
+        Err(e) => Err(e),
+    }
 }
