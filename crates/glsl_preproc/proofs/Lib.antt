@@ -9,3 +9,4 @@ pub mod Answering
 pub mod Expressions
 pub mod Defining
 pub mod Lines
+pub mod Ways

@@ -1,7 +1,8 @@
 -- The reader's steps, and the lines of a source.
 use Rattle.std.proofs.Common.{◌≡◌, ◌<◌, ◌≤◌, ◌+◌, ◌++◌, ℕ, zero, suc, Bool, true, false, not, ◌&&◌, eqb, cond, List, [], ◌∷◌, length, take, drop, get_or, reverse, Option, Some, None, Result, Ok, Err, refl, sym, ap, subst, ◌∙◌, arith, inl, inr, ◌⊎◌}
 use Rattle.std.proofs.lemmas.Bool.{cond-true, cond-false}
-use Rattle.std.proofs.lemmas.List.{reverse-append, drop_more, take_more, take_all, drop_all}
+use Rattle.std.proofs.lemmas.List.{reverse-append, drop_more, take_more, map_push}
+use Rattle.glsl_preproc.proofs.Ways.{two_ways}
 use Rattle.glsl_tree.specs.Token.{PlainToken, plain, plain_tokens}
 use Rattle.glsl_tree.specs.declared.token.Token.{Token}
 use Rattle.glsl_preproc.specs.Macros.{PlainMacro}
@@ -9,7 +10,7 @@ use Rattle.glsl_preproc.specs.Replacement.{Outcome, End, Whole, Failed, Deeper, 
 use Rattle.glsl_preproc.specs.Conditions.{Judged, Yes, No, Fails, Unknown, condition}
 use Rattle.glsl_preproc.specs.Directives.{kind_of, is_hash_token, after_define, after_undef, asked_defined, is_version, is_extension, are_line_numbers}
 use Rattle.glsl_preproc.specs.Expansion.{State, Step, Next, Stop, failing, unknown, flushed, flushed_by, and_then, with_macros, unless, opened, opened_if, opened_ifdef, with_part, elif_judged, elif_of, elif_step, other_part, else_step, endif_step, line_step, directive_step, acting, directive, failing_hash, behind_name, stray_hash, before_hash, skipping_inner, skipping_outer, skipping, text_step, not_fresh, read_step, skipped_step, line_of, is_read, outermost, ended_in, outcome_of, finished, is_line_end, lines_from, expansion}
-use Rattle.glsl_preproc.specs.ReaderViews.{step_tokens, Steps, Finishes}
+use Rattle.glsl_preproc.specs.ReaderViews.{step_tokens, Steps, Finishes, Answers}
 use Rattle.glsl_preproc.specs.declared.conditionals.Part.{Part}
 use Rattle.glsl_preproc.specs.declared.conditionals.Part.TheVariants.{Taken, Waiting, Passed}
 use Rattle.glsl_preproc.specs.declared.conditionals.Conditional.{Conditional}
@@ -255,3 +256,84 @@ lines_next n s line t rest e = ap (λ b. elim b as (λ _. Outcome) [ false ↦ l
 pub lines_more : (n : ℕ) (s : State) (line : List PlainToken) (t : PlainToken) (rest : List PlainToken) → is_line_end t ≡ false → lines_from n s line (t ∷ rest) ≡ lines_from n s (line ++ t ∷ []) rest
 unfolding lines_from
 lines_more n s line t rest e = ap (λ b. elim b as (λ _. Outcome) [ false ↦ lines_from n s (line ++ t ∷ []) rest | true ↦ elim (line_of n s line) as (λ _. Outcome) [ Next u ↦ lines_from n u [] rest | Stop o ↦ o ] ]) e
+
+lines_longer : (n : ℕ) (rest : List PlainToken) (s : State) (line : List PlainToken) → length s.tokens ≤ length (lines_from n s line rest).tokens
+lines_longer n [] s line = let P : Outcome → Type 0 = λ o. length s.tokens ≤ length o.tokens in subst P (sym (lines_last n s line)) (by_step (line_of n s line) (line_longer n s line))
+  where
+    by_step : (step : Step) → length s.tokens ≤ length (step_tokens step) → length s.tokens ≤ length (last_behind n step).tokens
+    by_step (Next t) h = let more = finished_longer n t in omega arith
+    by_step (Stop o) h = h
+lines_longer n (t ∷ rest) s line = by_end (two_ways (is_line_end t)) (λ u l. lines_longer n rest u l)
+  where
+    P : Outcome → Type 0
+    P o = length s.tokens ≤ length o.tokens
+    by_step : ((u : State) (l : List PlainToken) → length u.tokens ≤ length (lines_from n u l rest).tokens) → (step : Step) → length s.tokens ≤ length (step_tokens step) → length s.tokens ≤ length (next_behind n rest step).tokens
+    by_step goes (Next u) h = let more = goes u [] in omega arith
+    by_step goes (Stop o) h = h
+    by_end : (is_line_end t ≡ true) ⊎ (is_line_end t ≡ false) → ((u : State) (l : List PlainToken) → length u.tokens ≤ length (lines_from n u l rest).tokens) → length s.tokens ≤ length (lines_from n s line (t ∷ rest)).tokens
+    by_end (inl e) goes = subst P (sym (lines_next n s line t rest e)) (by_step goes (line_of n s line) (line_longer n s line))
+    by_end (inr e) goes = subst P (sym (lines_more n s line t rest e)) (goes s (line ++ t ∷ []))
+
+-- What an error of the code says.
+pub err_read : (n : ℕ) (s new : State) (line : ℕ) (list : List PlainToken) (e : Pre) → Steps (flushed n s) new (Err e) → Steps (read_step n s line list) new (Err e)
+err_read n s new line list (pre.Directive at) h = ap (λ step. not_fresh (and_then step (λ f. directive n f line list s.fresh))) h
+err_read n s new line list pre.TooLong h = let P : List PlainToken → Type 0 = λ l. 131072 < length l in subst P (sym (read_keeps n s line list)) h
+err_read n s new line list pre.Memory h = tt
+
+last_is : (s : State) (c : Conditional) (line : ℕ) (cs : List Conditional) → outermost line (cs ++ c ∷ []) ≡ c.line
+last_is s c line [] = refl
+last_is s c line (d ∷ cs) = last_is s c d.line cs
+
+ended_last : (s : State) (c : Conditional) (cs : List Conditional) → ended_in s (cs ++ c ∷ []) ≡ failing s c.line
+ended_last s c [] = refl
+ended_last s c (d ∷ cs) = ap (failing s) (last_is s c d.line cs)
+
+pub ended_first : (s : State) (cs : List Conditional) (c : Conditional) → 0 < length cs → c ≡ get_or cs 0 c → ended_in s (reverse cs) ≡ failing s c.line
+ended_first s [] c h e = absurd (omega arith)
+ended_first s (d ∷ cs) c h e = ap (ended_in s) (reverse-append (d ∷ []) cs) ∙ ended_last s d (reverse cs) ∙ ap (λ k. failing s k.line) (sym e)
+
+pub finished_failed : (n : ℕ) (s new : State) (cs : List Conditional) (c : Conditional) → flushed n s ≡ Next new → new.conditionals ≡ reverse cs → 0 < length cs → c ≡ get_or cs 0 c → finished n s ≡ ended new.tokens (Failed c.line)
+unfolding finished
+finished_failed n s new cs c f r h e = ap (λ step. outcome_of (and_then step (λ g. ended_in g g.conditionals))) f ∙ ap (λ l. outcome_of (ended_in new l)) r ∙ ap outcome_of (ended_first new cs c h e)
+
+-- Lines, from the code's steps.
+pub err_last : (n : ℕ) (s new : State) (line : List PlainToken) (e : Pre) → Steps (line_of n s line) new (Err e) → Finishes (lines_from n s line []) new.tokens (Err e)
+err_last n s new line (pre.Directive at) h = lines_last n s line ∙ ap (last_behind n) h
+err_last n s new line pre.TooLong h = let P : Outcome → Type 0 = λ o. 131072 < length o.tokens in subst P (sym (lines_last n s line)) (by_step (line_of n s line) h)
+  where
+    by_step : (step : Step) → 131072 < length (step_tokens step) → 131072 < length (last_behind n step).tokens
+    by_step (Next t) h = let more = finished_longer n t in omega arith
+    by_step (Stop o) h = h
+err_last n s new line pre.Memory h = tt
+
+pub err_next : (n : ℕ) (s new : State) (line : List PlainToken) (t : PlainToken) (rest : List PlainToken) (e : Pre) → is_line_end t ≡ true → Steps (line_of n s line) new (Err e) → Finishes (lines_from n s line (t ∷ rest)) new.tokens (Err e)
+err_next n s new line t rest (pre.Directive at) l h = lines_next n s line t rest l ∙ ap (next_behind n rest) h
+err_next n s new line t rest pre.TooLong l h = let P : Outcome → Type 0 = λ o. 131072 < length o.tokens in subst P (sym (lines_next n s line t rest l)) (by_step (line_of n s line) h)
+  where
+    by_step : (step : Step) → 131072 < length (step_tokens step) → 131072 < length (next_behind n rest step).tokens
+    by_step (Next t) h = let more = lines_longer n rest t [] in omega arith
+    by_step (Stop o) h = h
+err_next n s new line t rest pre.Memory l h = tt
+
+pub ok_last : (n : ℕ) (s new : State) (line : List PlainToken) → line_of n s line ≡ Next new → lines_from n s line [] ≡ finished n new
+ok_last n s new line h = lines_last n s line ∙ ap (last_behind n) h
+
+pub ok_next : (n : ℕ) (s new : State) (line : List PlainToken) (t : PlainToken) (rest : List PlainToken) → is_line_end t ≡ true → line_of n s line ≡ Next new → lines_from n s line (t ∷ rest) ≡ lines_from n new [] rest
+ok_next n s new line t rest l h = lines_next n s line t rest l ∙ ap (next_behind n rest) h
+
+-- The token at a place.
+pub at_place : (count : ℕ) (rest : List Token) (x : Token) → count < length rest → x ≡ get_or rest count x → plain_tokens (drop count rest) ≡ plain x ∷ plain_tokens (drop (count + 1) rest)
+at_place count rest x h e = ap plain_tokens (drop_more rest count x h ∙ ap (λ y. y ∷ drop (count + 1) rest) (sym e))
+
+pub one_longer : (count : ℕ) (rest : List Token) (x : Token) → count < length rest → x ≡ get_or rest count x → plain_tokens (take (count + 1) rest) ≡ plain_tokens (take count rest) ++ plain x ∷ []
+one_longer count rest x h e = ap plain_tokens (take_more rest count x h ∙ ap (λ y. take count rest ++ y ∷ []) (sym e)) ∙ map_push plain (take count rest) x
+
+-- The answer, from how the expansion finishes.
+pub err_answer : (n : ℕ) (source new : List PlainToken) (o : Outcome) (e : Pre) → o ≡ expansion n source → length new ≤ 131072 → Finishes o new (Err e) → Answers source (Err e)
+err_answer n source new o (pre.Directive line) w h f = (new, (n, sym w ∙ f), h)
+err_answer n source new o pre.TooLong w h f = (n, let P : Outcome → Type 0 = λ x. 131072 < length x.tokens in subst P w f)
+err_answer n source new o pre.Memory w h f = tt
+
+pub first_or : (cs : List Conditional) (d : Conditional) → 0 < length cs → get_or cs 0 d ≡ get_or cs 0 (get_or cs 0 d)
+first_or [] d h = absurd (omega arith)
+first_or (c ∷ cs) d h = refl
