@@ -1,7 +1,7 @@
 -- The reader's steps, and the lines of a source.
 use Rattle.std.proofs.Common.{◌≡◌, ◌<◌, ◌≤◌, ◌+◌, ◌++◌, ℕ, zero, suc, Bool, true, false, not, ◌&&◌, eqb, cond, List, [], ◌∷◌, length, take, drop, get_or, reverse, Option, Some, None, Result, Ok, Err, refl, sym, ap, subst, ◌∙◌, arith, inl, inr, ◌⊎◌}
 use Rattle.std.proofs.lemmas.Bool.{cond-true, cond-false}
-use Rattle.std.proofs.lemmas.List.{reverse-append, drop_more, take_more, map_push}
+use Rattle.std.proofs.lemmas.List.{reverse-append, drop_more, take_more, take_all, map_push, drop-drop, get_or-drop}
 use Rattle.glsl_preproc.proofs.Ways.{two_ways}
 use Rattle.glsl_tree.specs.Token.{PlainToken, plain, plain_tokens}
 use Rattle.glsl_tree.specs.declared.token.Token.{Token}
@@ -9,7 +9,7 @@ use Rattle.glsl_preproc.specs.Macros.{PlainMacro}
 use Rattle.glsl_preproc.specs.Replacement.{Outcome, End, Whole, Failed, Deeper, ended, expanded}
 use Rattle.glsl_preproc.specs.Conditions.{Judged, Yes, No, Fails, Unknown, condition}
 use Rattle.glsl_preproc.specs.Directives.{kind_of, is_hash_token, after_define, after_undef, asked_defined, is_version, is_extension, are_line_numbers}
-use Rattle.glsl_preproc.specs.Expansion.{State, Step, Next, Stop, failing, unknown, flushed, flushed_by, and_then, with_macros, unless, opened, opened_if, opened_ifdef, with_part, elif_judged, elif_of, elif_step, other_part, else_step, endif_step, line_step, directive_step, acting, directive, failing_hash, behind_name, stray_hash, before_hash, skipping_inner, skipping_outer, skipping, text_step, not_fresh, read_step, skipped_step, line_of, is_read, outermost, ended_in, outcome_of, finished, is_line_end, lines_from, expansion}
+use Rattle.glsl_preproc.specs.Expansion.{State, Step, Next, Stop, failing, unknown, flushed, flushed_by, and_then, with_macros, unless, opened, opened_if, opened_ifdef, with_part, elif_judged, elif_of, elif_step, other_part, else_step, endif_step, line_step, directive_step, acting, directive, failing_hash, behind_name, stray_hash, before_hash, skipping_inner, skipping_outer, skipping, text_step, not_fresh, read_step, skipped_step, line_of, is_read, outermost, ended_in, outcome_of, finished, is_line_end, lines_from, at_start, expansion}
 use Rattle.glsl_preproc.specs.ReaderViews.{step_tokens, Steps, Finishes, Answers}
 use Rattle.glsl_preproc.specs.declared.conditionals.Part.{Part}
 use Rattle.glsl_preproc.specs.declared.conditionals.Part.TheVariants.{Taken, Waiting, Passed}
@@ -337,3 +337,32 @@ err_answer n source new o pre.Memory w h f = tt
 pub first_or : (cs : List Conditional) (d : Conditional) → 0 < length cs → get_or cs 0 d ≡ get_or cs 0 (get_or cs 0 d)
 first_or [] d h = absurd (omega arith)
 first_or (c ∷ cs) d h = refl
+
+-- The line so far is a front of what began with it.
+pub at_begin : (n : ℕ) (s : State) (tokens : List Token) (k : ℕ) → k ≡ 0 → s ≡ at_start → lines_from n s (plain_tokens (take k tokens)) (plain_tokens tokens) ≡ expansion n (plain_tokens tokens)
+unfolding expansion
+at_begin n s tokens k e h = ap (λ j. lines_from n s (plain_tokens (take j tokens)) (plain_tokens tokens)) e ∙ ap (λ t. lines_from n t [] (plain_tokens tokens)) h
+
+pub place_more : (start rest : List Token) (k j : ℕ) → drop k start ≡ rest → j ≡ k + 1 → drop j start ≡ drop 1 rest
+place_more start rest k j p e = ap (λ i. drop i start) e ∙ sym (drop-drop 1 k start) ∙ ap (drop 1) p
+
+pub line_more : (n : ℕ) (s : State) (start rest : List Token) (x : Token) (k j : ℕ) → drop k start ≡ rest → j ≡ k + 1 → k < length start → 0 < length rest → x ≡ get_or rest 0 x → is_line_end (plain x) ≡ false
+    → lines_from n s (plain_tokens (take j start)) (plain_tokens (drop 1 rest)) ≡ lines_from n s (plain_tokens (take k start)) (plain_tokens rest)
+line_more n s start rest x k j p e lt some is other =
+    let here : get_or rest 0 x ≡ get_or start k x = ap (λ l. get_or l 0 x) (sym p) ∙ get_or-drop k start 0 x ∙ ap (λ i. get_or start i x) (omega arith) in
+    ap (λ i. lines_from n s (plain_tokens (take i start)) (plain_tokens (drop 1 rest))) e
+    ∙ ap (λ l. lines_from n s l (plain_tokens (drop 1 rest))) (one_longer k start x lt (is ∙ here))
+    ∙ sym (at_first (λ l. lines_from n s (plain_tokens (take k start)) (plain_tokens l)) rest x some is ∙ lines_more n s (plain_tokens (take k start)) (plain x) (plain_tokens (drop 1 rest)) other)
+
+pub line_done : (n : ℕ) (s new : State) (start rest : List Token) (x : Token) (k : ℕ) → 0 < length rest → x ≡ get_or rest 0 x → is_line_end (plain x) ≡ true → line_of n s (plain_tokens (take k start)) ≡ Next new
+    → lines_from n s (plain_tokens (take k start)) (plain_tokens rest) ≡ lines_from n new [] (plain_tokens (drop 1 rest))
+line_done n s new start rest x k some is l h = at_first (λ r. lines_from n s (plain_tokens (take k start)) (plain_tokens r)) rest x some is ∙ ok_next n s new (plain_tokens (take k start)) (plain x) (plain_tokens (drop 1 rest)) l h
+
+pub line_fails : (n : ℕ) (s new : State) (start rest : List Token) (x : Token) (k : ℕ) (e : Pre) → 0 < length rest → x ≡ get_or rest 0 x → is_line_end (plain x) ≡ true → Steps (line_of n s (plain_tokens (take k start))) new (Err e)
+    → Finishes (lines_from n s (plain_tokens (take k start)) (plain_tokens rest)) new.tokens (Err e)
+line_fails n s new start rest x k e some is l h =
+    let P : Outcome → Type 0 = λ o. Finishes o new.tokens (Err e) in
+    subst P (sym (at_first (λ r. lines_from n s (plain_tokens (take k start)) (plain_tokens r)) rest x some is)) (err_next n s new (plain_tokens (take k start)) (plain x) (plain_tokens (drop 1 rest)) e l h)
+
+pub last_line : (n : ℕ) (s : State) (start rest : List Token) (k : ℕ) → length rest ≡ 0 → length start ≤ k → lines_from n s (plain_tokens (take k start)) (plain_tokens rest) ≡ lines_from n s (plain_tokens start) []
+last_line n s start rest k none long = at_none (λ r. lines_from n s (plain_tokens (take k start)) (plain_tokens r)) rest none ∙ ap (λ l. lines_from n s (plain_tokens l) []) (take_all k start long)

@@ -17,21 +17,21 @@ pub fn expand(alloc: Global, tokens: &[Token]) -> Result<Vec<Token>, Pre>
     let Ok(mut reader) = Reader::new(alloc) else {
         return Err(Pre::Memory);
     };
+    let mut start = tokens;
     let mut rest = tokens;
-    let mut count = 0;
-    while count < rest.len() {
-        if is_line_end(&rest[count]) {
-            match reader.line_of(alloc, rest.split_at(count).0) {
+    while !rest.is_empty() {
+        let token = &rest[0];
+        let tail = rest.split_at(1).1;
+        if is_line_end(token) {
+            match reader.line_of(alloc, start.split_at(start.len() - rest.len()).0) {
                 Ok(()) => {}
                 Err(e) => return Err(e),
             }
-            rest = rest.split_at(count + 1).1;
-            count = 0;
-        } else {
-            count += 1;
+            start = tail;
         }
+        rest = tail;
     }
-    match reader.line_of(alloc, rest) {
+    match reader.line_of(alloc, start) {
         Ok(()) => {}
         Err(e) => return Err(e),
     }

@@ -5,12 +5,13 @@ use Rattle.glsl_preproc.specs.ReaderViews.{state_of}
 use Rattle.glsl_preproc.proofs.run.expand.Given as goal
 
 -- what the reader knows, the tokens of the line so far, and those that are left
-abbrev pub invariant-loop-count : goal.invariant-loop-count
-invariant-loop-count l = record {
-  rest : lines_from 1024 (state_of l.reader) (plain_tokens (take l.count l.rest)) (plain_tokens (drop l.count l.rest)) ≡ expansion 1024 (plain_tokens l.tokens);
-  within : l.count ≤ length l.rest;
+abbrev pub invariant-loop-rest : goal.invariant-loop-rest
+invariant-loop-rest l = record {
+  rest : lines_from 1024 (state_of l.reader) (plain_tokens (take (length l.start - length l.rest) l.start)) (plain_tokens l.rest) ≡ expansion 1024 (plain_tokens l.tokens);
+  place : drop (length l.start - length l.rest) l.start ≡ l.rest;
+  within : length l.rest ≤ length l.start;
   tokens : length l.reader.tokens.items ≤ 131072;
 }
 
-abbrev pub decreases-loop-count : goal.decreases-loop-count
-decreases-loop-count l = length l.rest - l.count
+abbrev pub decreases-loop-rest : goal.decreases-loop-rest
+decreases-loop-rest l = length l.rest
