@@ -23,10 +23,10 @@ unfolding answered_from
 step_is macros done t rest = by_asked (asked_at t rest)
   where
     by_asked : (a : Asked) → elim a [
-          Other ↦ answered_from macros (done ++ t ∷ []) 0 rest
-        | Of name n ↦ answered_from macros (done ++ answer_token (is_defined macros name) ∷ []) n rest
-        | Broken ↦ None
-        ] ≡ answered_step macros done t rest a
+      | Other ↦ answered_from macros (done ++ t ∷ []) 0 rest
+      | Of name n ↦ answered_from macros (done ++ answer_token (is_defined macros name) ∷ []) n rest
+      | Broken ↦ None
+    ] ≡ answered_step macros done t rest a
     by_asked Other = refl
     by_asked (Of name n) = refl
     by_asked Broken = refl

@@ -43,7 +43,7 @@ filter_plain name [] = refl
 filter_plain name (m ∷ macros) = kept (not (bytes_eq m.name.items name)) ∙ ap (λ l. cond (not (bytes_eq m.name.items name)) (plain_macro m ∷ l) l) (filter_plain name macros)
   where
     kept : (b : Bool) → plain_macros (cond b (m ∷ filter (λ k. not (bytes_eq k.name.items name)) macros) (filter (λ k. not (bytes_eq k.name.items name)) macros))
-      ≡ cond b (plain_macro m ∷ plain_macros (filter (λ k. not (bytes_eq k.name.items name)) macros)) (plain_macros (filter (λ k. not (bytes_eq k.name.items name)) macros))
+        ≡ cond b (plain_macro m ∷ plain_macros (filter (λ k. not (bytes_eq k.name.items name)) macros)) (plain_macros (filter (λ k. not (bytes_eq k.name.items name)) macros))
     kept true = refl
     kept false = refl
 

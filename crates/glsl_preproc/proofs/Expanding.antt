@@ -27,10 +27,10 @@ skipped below macros hidden done (suc k) (t ∷ list) = skipped below macros hid
 -- how an expansion goes on behind one that it asked for
 abbrev pub behind : Below → List PlainMacro → List (List ℕ) → ℕ → List PlainToken → Outcome → Outcome
 behind below macros hidden n rest o = elim o.end [
-      Whole ↦ list_from below macros hidden o.tokens n rest
-    | Failed line ↦ o
-    | Deeper ↦ o
-    ]
+  | Whole ↦ list_from below macros hidden o.tokens n rest
+  | Failed line ↦ o
+  | Deeper ↦ o
+]
 
 abbrev pub stepped : Below → List PlainMacro → List (List ℕ) → List PlainToken → PlainToken → List PlainToken → Use → Outcome
 stepped below macros hidden done t rest Kept = list_from below macros hidden (done ++ t ∷ []) 0 rest
@@ -44,20 +44,20 @@ unfolding list_from
 step_is below macros hidden done t rest = by_use (use_of macros hidden t rest)
   where
     by_use : (u : Use) → elim u [
-          Kept ↦ list_from below macros hidden (done ++ t ∷ []) 0 rest
-        | LineNumber ↦ list_from below macros hidden (done ++ line_number t ∷ []) 0 rest
-        | WrongCount ↦ ended done (Failed t.line)
-        | Object m ↦ elim ((object_outcome below hidden done t m).end) [
-              Whole ↦ list_from below macros hidden (object_outcome below hidden done t m).tokens 0 rest
-            | Failed line ↦ object_outcome below hidden done t m
-            | Deeper ↦ object_outcome below hidden done t m
-            ]
-        | Call m parameters arguments n ↦ elim ((call_outcome below hidden done t m parameters arguments).end) [
-              Whole ↦ list_from below macros hidden (call_outcome below hidden done t m parameters arguments).tokens n rest
-            | Failed line ↦ call_outcome below hidden done t m parameters arguments
-            | Deeper ↦ call_outcome below hidden done t m parameters arguments
-            ]
-        ] ≡ stepped below macros hidden done t rest u
+      | Kept ↦ list_from below macros hidden (done ++ t ∷ []) 0 rest
+      | LineNumber ↦ list_from below macros hidden (done ++ line_number t ∷ []) 0 rest
+      | WrongCount ↦ ended done (Failed t.line)
+      | Object m ↦ elim ((object_outcome below hidden done t m).end) [
+        | Whole ↦ list_from below macros hidden (object_outcome below hidden done t m).tokens 0 rest
+        | Failed line ↦ object_outcome below hidden done t m
+        | Deeper ↦ object_outcome below hidden done t m
+      ]
+      | Call m parameters arguments n ↦ elim ((call_outcome below hidden done t m parameters arguments).end) [
+        | Whole ↦ list_from below macros hidden (call_outcome below hidden done t m parameters arguments).tokens n rest
+        | Failed line ↦ call_outcome below hidden done t m parameters arguments
+        | Deeper ↦ call_outcome below hidden done t m parameters arguments
+      ]
+    ] ≡ stepped below macros hidden done t rest u
     by_use Kept = refl
     by_use LineNumber = refl
     by_use WrongCount = refl

@@ -50,21 +50,22 @@ unfolding chain_from
 step_is operand level v count t rest = by_operator (at_level level (operator_of t.text))
   where
     by_operand : (op : Operator) (p : Parsed) → elim p [
-          Read w n ↦ chain_from operand level (applied op v w) (count + 1 + n) n rest
-        | Wrong ↦ Wrong
-        | TooDeep ↦ TooDeep
-        ] ≡ chained operand level v count rest op p
+      | Read w n ↦ chain_from operand level (applied op v w) (count + 1 + n) n rest
+      | Wrong ↦ Wrong
+      | TooDeep ↦ TooDeep
+    ] ≡ chained operand level v count rest op p
     by_operand op (Read w n) = refl
     by_operand op Wrong = refl
     by_operand op TooDeep = refl
+
     by_operator : (o : Option Operator) → elim o [
-          None ↦ Read v count
-        | Some op ↦ elim (operand rest) [
-              Read w n ↦ chain_from operand level (applied op v w) (count + 1 + n) n rest
-            | Wrong ↦ Wrong
-            | TooDeep ↦ TooDeep
-            ]
-        ] ≡ chain_step operand level v count rest o
+      | None ↦ Read v count
+      | Some op ↦ elim (operand rest) [
+        | Read w n ↦ chain_from operand level (applied op v w) (count + 1 + n) n rest
+        | Wrong ↦ Wrong
+        | TooDeep ↦ TooDeep
+      ]
+    ] ≡ chain_step operand level v count rest o
     by_operator None = refl
     by_operator (Some op) = by_operand op (operand rest)
 

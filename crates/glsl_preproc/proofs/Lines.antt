@@ -182,6 +182,7 @@ flushed_longer n s = by_end (expanded n s.macros [] s.tokens s.text) (expanded_e
     by_kind o Whole h = h
     by_kind o (Failed line) h = h
     by_kind o Deeper h = h
+
     by_end : (o : Outcome) → length s.tokens ≤ length o.tokens → length s.tokens ≤ length (step_tokens (flushed_by s o))
     by_end o h = by_kind o o.end h
 
@@ -207,6 +208,7 @@ line_longer n s (t ∷ rest) = by_hash (is_hash_token t) (is_read s)
   where
     P : List PlainToken → Type 0
     P l = length s.tokens ≤ length l
+
     by_hash : (h r : Bool) → length s.tokens ≤ length (step_tokens (cond h (cond r (read_step n s t.line rest) (skipped_step n s t.line rest)) (cond r (text_step n s (t ∷ rest) (stray_hash (t ∷ rest))) (Next (record s { fresh = false })))))
     by_hash true true = let e = read_keeps n s t.line rest in let longer = flushed_longer n s in subst P (sym e) longer
     by_hash true false = let e = not_fresh_keeps (skipping n s t.line rest) ∙ skipping_keeps n s t.line rest in subst P (sym e) (omega arith)
@@ -267,9 +269,11 @@ lines_longer n (t ∷ rest) s line = by_end (two_ways (is_line_end t)) (λ u l. 
   where
     P : Outcome → Type 0
     P o = length s.tokens ≤ length o.tokens
+
     by_step : ((u : State) (l : List PlainToken) → length u.tokens ≤ length (lines_from n u l rest).tokens) → (step : Step) → length s.tokens ≤ length (step_tokens step) → length s.tokens ≤ length (next_behind n rest step).tokens
     by_step goes (Next u) h = let more = goes u [] in omega arith
     by_step goes (Stop o) h = h
+
     by_end : (is_line_end t ≡ true) ⊎ (is_line_end t ≡ false) → ((u : State) (l : List PlainToken) → length u.tokens ≤ length (lines_from n u l rest).tokens) → length s.tokens ≤ length (lines_from n s line (t ∷ rest)).tokens
     by_end (inl e) goes = subst P (sym (lines_next n s line t rest e)) (by_step goes (line_of n s line) (line_longer n s line))
     by_end (inr e) goes = subst P (sym (lines_more n s line t rest e)) (goes s (line ++ t ∷ []))

@@ -36,10 +36,10 @@ unfoldable pub answered_from : List PlainMacro → List PlainToken → ℕ → L
 answered_from macros done k [] = Some done
 answered_from macros done (suc k) (t ∷ rest) = answered_from macros done k rest
 answered_from macros done zero (t ∷ rest) = elim (asked_at t rest) [
-      Other ↦ answered_from macros (done ++ t ∷ []) 0 rest
-    | Of name n ↦ answered_from macros (done ++ answer_token (is_defined macros name) ∷ []) n rest
-    | Broken ↦ None
-    ]
+  | Other ↦ answered_from macros (done ++ t ∷ []) 0 rest
+  | Of name n ↦ answered_from macros (done ++ answer_token (is_defined macros name) ∷ []) n rest
+  | Broken ↦ None
+]
 
 -- what is read at the front of a list: a value and how many tokens it takes; no expression; or brackets that nest deeper than was asked for
 pub data Parsed : Type 0 where
@@ -91,13 +91,13 @@ unfoldable pub chain_from : (List PlainToken → Parsed) → ℕ → Option ℤ 
 chain_from operand level v count k [] = Read v count
 chain_from operand level v count (suc k) (t ∷ rest) = chain_from operand level v count k rest
 chain_from operand level v count zero (t ∷ rest) = elim (at_level level (operator_of t.text)) [
-      None ↦ Read v count
-    | Some op ↦ elim (operand rest) [
-          Read w n ↦ chain_from operand level (applied op v w) (count + 1 + n) n rest
-        | Wrong ↦ Wrong
-        | TooDeep ↦ TooDeep
-        ]
-    ]
+  | None ↦ Read v count
+  | Some op ↦ elim (operand rest) [
+    | Read w n ↦ chain_from operand level (applied op v w) (count + 1 + n) n rest
+    | Wrong ↦ Wrong
+    | TooDeep ↦ TooDeep
+  ]
+]
 
 abbrev pub chain_behind : (List PlainToken → Parsed) → ℕ → List PlainToken → Parsed → Parsed
 chain_behind operand level list (Read v n) = chain_from operand level v n n list
@@ -133,10 +133,10 @@ judged list TooDeep = Unknown
 
 abbrev pub judged_outcome : ℕ → Outcome → Judged
 judged_outcome n o = elim o.end [
-      Whole ↦ judged o.tokens (expression_at (operand_within n) 10 o.tokens)
-    | Failed line ↦ Fails
-    | Deeper ↦ Unknown
-    ]
+  | Whole ↦ judged o.tokens (expression_at (operand_within n) 10 o.tokens)
+  | Failed line ↦ Fails
+  | Deeper ↦ Unknown
+]
 
 abbrev pub judged_answered : ℕ → List PlainMacro → Option (List PlainToken) → Judged
 judged_answered n macros None = Fails

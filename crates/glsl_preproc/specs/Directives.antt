@@ -44,8 +44,8 @@ is_hash_token t = is_hash_class t.class
 unfoldable pub parameters_from : List (List ℕ) → ℕ → List PlainToken → Option (List (List ℕ) × ℕ)
 parameters_from done count (name ∷ separator ∷ rest) =
     if is_name_token name && not (list_any (λ p. bytes_eq p name.text) done) then
-      (if closes separator then Some (done ++ name.text ∷ [], count + 2)
-      else (if is_comma separator then parameters_from (done ++ name.text ∷ []) (count + 2) rest else None))
+    (if closes separator then Some (done ++ name.text ∷ [], count + 2)
+    else (if is_comma separator then parameters_from (done ++ name.text ∷ []) (count + 2) rest else None))
     else None
 parameters_from done count (name ∷ []) = None
 parameters_from done count [] = None

@@ -50,10 +50,10 @@ unknown s = Stop (ended s.tokens Deeper)
 -- the text lines are expanded where a directive or the end comes
 abbrev pub flushed_by : State → Outcome → Step
 flushed_by s o = elim o.end [
-      Whole ↦ Next (record s { text = []; tokens = o.tokens })
-    | Failed line ↦ Stop o
-    | Deeper ↦ Stop o
-    ]
+  | Whole ↦ Next (record s { text = []; tokens = o.tokens })
+  | Failed line ↦ Stop o
+  | Deeper ↦ Stop o
+]
 
 unfoldable pub flushed : ℕ → State → Step
 flushed n s = flushed_by s (expanded n s.macros [] s.tokens s.text)
@@ -120,10 +120,10 @@ endif_step s line [] (c ∷ outer) = Next (record s { conditionals = outer })
 -- `#line` has one int or two behind it, once macros are expanded
 abbrev pub line_step : State → ℕ → Outcome → Step
 line_step s line o = elim o.end [
-      Whole ↦ unless (not (are_line_numbers o.tokens)) s line
-    | Failed at ↦ failing s line
-    | Deeper ↦ unknown s
-    ]
+  | Whole ↦ unless (not (are_line_numbers o.tokens)) s line
+  | Failed at ↦ failing s line
+  | Deeper ↦ unknown s
+]
 
 -- a directive of a kind, of a line, with the tokens behind its name
 unfoldable pub directive_step : ℕ → State → ℕ → Kind → List PlainToken → Bool → Step
@@ -210,7 +210,7 @@ unfoldable pub line_of : ℕ → State → List PlainToken → Step
 line_of n s [] = Next s
 line_of n s (t ∷ rest) =
     if is_hash_token t then
-      (if is_read s then read_step n s t.line rest else skipped_step n s t.line rest)
+    (if is_read s then read_step n s t.line rest else skipped_step n s t.line rest)
     else (if is_read s then text_step n s (t ∷ rest) (stray_hash (t ∷ rest)) else Next (record s { fresh = false }))
 
 -- the line of the outermost conditional that is open
@@ -241,9 +241,9 @@ is_line_end t = is_new_line t.class
 unfoldable pub lines_from : ℕ → State → List PlainToken → List PlainToken → Outcome
 lines_from n s line [] = elim (line_of n s line) [ Next t ↦ finished n t | Stop o ↦ o ]
 lines_from n s line (t ∷ rest) = elim (is_line_end t) [
-      false ↦ lines_from n s (line ++ t ∷ []) rest
-    | true ↦ elim (line_of n s line) [ Next u ↦ lines_from n u [] rest | Stop o ↦ o ]
-    ]
+  | false ↦ lines_from n s (line ++ t ∷ []) rest
+  | true ↦ elim (line_of n s line) [ Next u ↦ lines_from n u [] rest | Stop o ↦ o ]
+]
 
 unfoldable pub at_start : State
 at_start = record { macros = first_macros; conditionals = []; skipped = 0; text = []; tokens = []; fresh = true }

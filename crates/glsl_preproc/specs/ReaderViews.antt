@@ -12,13 +12,13 @@ use Rattle.glsl_preproc.specs.declared.errors.Pre.TheVariants as pre
 
 abbrev pub state_of : Reader → State
 state_of r = record {
-    macros = plain_macros r.macros.items;
-    conditionals = reverse r.conditionals.items;
-    skipped = r.skipped;
-    text = plain_tokens r.text.items;
-    tokens = plain_tokens r.tokens.items;
-    fresh = r.fresh;
-  }
+  macros = plain_macros r.macros.items;
+  conditionals = reverse r.conditionals.items;
+  skipped = r.skipped;
+  text = plain_tokens r.text.items;
+  tokens = plain_tokens r.tokens.items;
+  fresh = r.fresh;
+}
 
 -- the tokens that a step leaves
 abbrev pub step_tokens : Step → List PlainToken

@@ -77,8 +77,8 @@ used_macro (Some m) rest = used m m.parameters rest
 unfoldable pub use_of : List PlainMacro → List (List ℕ) → PlainToken → List PlainToken → Use
 use_of macros hidden t rest =
     if is_name_token t then
-      (if is_text (codes "__LINE__") t then LineNumber
-      else (if list_any (λ name. bytes_eq name t.text) hidden then Kept else used_macro (find_macro macros t.text) rest))
+    (if is_text (codes "__LINE__") t then LineNumber
+    else (if list_any (λ name. bytes_eq name t.text) hidden then Kept else used_macro (find_macro macros t.text) rest))
     else Kept
 
 abbrev pub line_number : PlainToken → PlainToken
@@ -103,15 +103,14 @@ unfoldable pub substituted : List (List ℕ) → List (List PlainToken) → ℕ 
 substituted parameters arguments line [] = []
 substituted parameters arguments line (t ∷ body) = at_line line (argument_or (argument_of parameters arguments t.text) t) ++ substituted parameters arguments line body
 
-
 -- each argument expanded as a list of its own, behind those that are, where `below` expands one; or the end of the first that is not whole
 unfoldable pub expanded_arguments : (List PlainToken → Outcome) → List (List PlainToken) → List (List PlainToken) → Result (List (List PlainToken)) End
 expanded_arguments below done [] = Ok done
 expanded_arguments below done (a ∷ arguments) = elim ((below a).end) [
-      Whole ↦ expanded_arguments below (done ++ (below a).tokens ∷ []) arguments
-    | Failed line ↦ Err (Failed line)
-    | Deeper ↦ Err Deeper
-    ]
+  | Whole ↦ expanded_arguments below (done ++ (below a).tokens ∷ []) arguments
+  | Failed line ↦ Err (Failed line)
+  | Deeper ↦ Err Deeper
+]
 
 -- a call: its arguments are expanded first, and then the replacement with these in it, where the name is hidden too
 abbrev pub called_with : (List (List ℕ) → List PlainToken → List PlainToken → Outcome) → List (List ℕ) → List PlainToken → PlainToken → PlainMacro → List (List ℕ) → Result (List (List PlainToken)) End → Outcome
@@ -130,20 +129,20 @@ unfoldable pub list_from : (List (List ℕ) → List PlainToken → List PlainTo
 list_from below macros hidden done k [] = ended done Whole
 list_from below macros hidden done (suc k) (t ∷ rest) = list_from below macros hidden done k rest
 list_from below macros hidden done zero (t ∷ rest) = elim (use_of macros hidden t rest) [
-      Kept ↦ list_from below macros hidden (done ++ t ∷ []) 0 rest
-    | LineNumber ↦ list_from below macros hidden (done ++ line_number t ∷ []) 0 rest
-    | WrongCount ↦ ended done (Failed t.line)
-    | Object m ↦ elim ((object_outcome below hidden done t m).end) [
-          Whole ↦ list_from below macros hidden (object_outcome below hidden done t m).tokens 0 rest
-        | Failed line ↦ object_outcome below hidden done t m
-        | Deeper ↦ object_outcome below hidden done t m
-        ]
-    | Call m parameters arguments n ↦ elim ((call_outcome below hidden done t m parameters arguments).end) [
-          Whole ↦ list_from below macros hidden (call_outcome below hidden done t m parameters arguments).tokens n rest
-        | Failed line ↦ call_outcome below hidden done t m parameters arguments
-        | Deeper ↦ call_outcome below hidden done t m parameters arguments
-        ]
-    ]
+  | Kept ↦ list_from below macros hidden (done ++ t ∷ []) 0 rest
+  | LineNumber ↦ list_from below macros hidden (done ++ line_number t ∷ []) 0 rest
+  | WrongCount ↦ ended done (Failed t.line)
+  | Object m ↦ elim ((object_outcome below hidden done t m).end) [
+    | Whole ↦ list_from below macros hidden (object_outcome below hidden done t m).tokens 0 rest
+    | Failed line ↦ object_outcome below hidden done t m
+    | Deeper ↦ object_outcome below hidden done t m
+  ]
+  | Call m parameters arguments n ↦ elim ((call_outcome below hidden done t m parameters arguments).end) [
+    | Whole ↦ list_from below macros hidden (call_outcome below hidden done t m parameters arguments).tokens n rest
+    | Failed line ↦ call_outcome below hidden done t m parameters arguments
+    | Deeper ↦ call_outcome below hidden done t m parameters arguments
+  ]
+]
 
 -- the expansion of a list behind the tokens before it, where macros nest in at most so many levels
 unfoldable pub expanded : ℕ → List PlainMacro → List (List ℕ) → List PlainToken → List PlainToken → Outcome

@@ -109,15 +109,15 @@ single_operator a =
 unfoldable pub double_operator : ℕ → ℕ → Option Operator
 double_operator a b =
     if b == 61 then
-      (if a == 60 then Some AtMost
-      else (if a == 62 then Some AtLeast
-      else (if a == 61 then Some Equal
-      else (if a == 33 then Some NotEqual else None))))
+    (if a == 60 then Some AtMost
+    else (if a == 62 then Some AtLeast
+    else (if a == 61 then Some Equal
+    else (if a == 33 then Some NotEqual else None))))
     else (if a == b then
-      (if a == 60 then Some ShiftLeft
-      else (if a == 62 then Some ShiftRight
-      else (if a == 38 then Some And
-      else (if a == 124 then Some Or else None))))
+    (if a == 60 then Some ShiftLeft
+    else (if a == 62 then Some ShiftRight
+    else (if a == 38 then Some And
+    else (if a == 124 then Some Or else None))))
     else None)
 
 unfoldable pub operator_of : List ℕ → Option Operator

@@ -63,7 +63,11 @@ fn push_answer(alloc: Global, out: &mut Vec<Token>, answer: bool) -> Result<(), 
 }
 
 /// The list with 1 or 0 for each `defined`, where each has a name.
-fn answered(alloc: Global, macros: &[Macro], list: &[Token]) -> Result<Option<Vec<Token>>, AllocError>
+fn answered(
+    alloc: Global,
+    macros: &[Macro],
+    list: &[Token],
+) -> Result<Option<Vec<Token>>, AllocError>
     ensures { IfOk result (λ found. answered_of found ≡ answered_from (plain_macros macros.now) [] 0 (plain_tokens list.now)) }
 {
     let mut out = Vec::new(alloc);
@@ -269,11 +273,7 @@ fn verdict_of(list: &[Token], parsed: Parsed) -> Judged
 {
     match parsed {
         Parsed::Read(Some(value), count) if count == list.len() => {
-            if value == 0 {
-                Judged::No
-            } else {
-                Judged::Yes
-            }
+            if value == 0 { Judged::No } else { Judged::Yes }
         }
         Parsed::TooDeep => Judged::Unknown,
         _ => Judged::Fails,
@@ -282,7 +282,13 @@ fn verdict_of(list: &[Token], parsed: Parsed) -> Judged
 
 /// What an `#if` with this list answers, where macro calls, brackets and signs nest in at most so many levels.
 #[tactic(auto, unfolding(crate::specs::Conditions::condition))]
-pub fn condition(alloc: Global, macros: &[Macro], levels: u32, work: &mut u32, list: &[Token]) -> Judged
+pub fn condition(
+    alloc: Global,
+    macros: &[Macro],
+    levels: u32,
+    work: &mut u32,
+    list: &[Token],
+) -> Judged
     ensures { IsJudged (condition levels (plain_macros macros.now) (plain_tokens list.now)) result }
 {
     let Ok(found) = answered(alloc, macros, list) else {
@@ -293,7 +299,16 @@ pub fn condition(alloc: Global, macros: &[Macro], levels: u32, work: &mut u32, l
     };
     let mut hidden = Vec::new(alloc);
     let mut tokens = Vec::new(alloc);
-    match expand_list(alloc, macros, levels, &mut hidden, work, resolved.as_slice(), &mut tokens, WORK as usize) {
+    match expand_list(
+        alloc,
+        macros,
+        levels,
+        &mut hidden,
+        work,
+        resolved.as_slice(),
+        &mut tokens,
+        WORK as usize,
+    ) {
         Ok(()) => verdict_of(tokens.as_slice(), expression(levels, 10, tokens.as_slice())),
         Err(Pre::Directive(_)) => Judged::Fails,
         Err(_) => Judged::Unknown,

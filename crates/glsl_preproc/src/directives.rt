@@ -283,7 +283,9 @@ pub fn is_extension(list: &[Token]) -> bool
     ensures { result ≡ is_extension (plain_tokens list.now) }
 {
     match list {
-        [name, colon, behavior] => is_name(name) && is_text(colon, b":") && is_offered(name, behavior),
+        [name, colon, behavior] => is_name(name)
+            && is_text(colon, b":")
+            && is_offered(name, behavior),
         _ => false,
     }
 }

@@ -6,7 +6,6 @@ mod conditionals;
 mod conditions;
 mod directives;
 mod errors;
-
 mod kinds;
 mod macro_table;
 mod macros;
@@ -19,9 +18,9 @@ mod tokens;
 mod values;
 
 pub use errors::Pre;
-pub use run::expand;
 pub use kinds::Kind;
 pub use operators::Operator;
+pub use run::expand;
 
 #[cfg(test)]
 mod tests;

@@ -4,7 +4,9 @@ ghost use Rattle.glsl_preproc.specs.Expansion.{stray_hash, other_part, failing_h
 
 use crate::conditionals::{Conditional, Part};
 use crate::conditions::{Judged, condition};
-use crate::directives::{are_line_numbers, asked_defined, define, is_extension, is_version, kind_of, undefine};
+use crate::directives::{
+    are_line_numbers, asked_defined, define, is_extension, is_version, kind_of, undefine,
+};
 use crate::errors::Pre;
 use crate::kinds::Kind;
 use crate::macro_table::first_macros;
@@ -172,7 +174,8 @@ impl Reader {
             part,
             closing: false,
             line,
-        }) else {
+        })
+        else {
             return Err(Pre::Memory);
         };
         Ok(())
@@ -223,7 +226,13 @@ impl Reader {
     }
 
     /// `#elif`, where no part was read before.
-    fn elif_judged(&mut self, alloc: Global, line: u32, list: &[Token], c: Conditional) -> Result<(), Pre>
+    fn elif_judged(
+        &mut self,
+        alloc: Global,
+        line: u32,
+        list: &[Token],
+        c: Conditional,
+    ) -> Result<(), Pre>
         requires { length self.old.tokens.items ≤ 131072 }
         ensures step { Steps (elif_judged (state_of self.old) line c (state_of self.old).conditionals (condition 1024 (state_of self.old).macros (plain_tokens list.now))) (state_of self.new) result }
         ensures within { length self.new.tokens.items ≤ 131072 }
@@ -246,7 +255,8 @@ impl Reader {
             part,
             closing,
             line: c.line,
-        }) else {
+        })
+        else {
             return Err(Pre::Memory);
         };
         Ok(())
@@ -325,7 +335,14 @@ impl Reader {
 
     /// A directive of a kind, of a line, with the tokens behind its name.
     #[tactic(auto, unfolding(crate::specs::Expansion::directive_step))]
-    fn act(&mut self, alloc: Global, line: u32, kind: Kind, list: &[Token], fresh: bool) -> Result<(), Pre>
+    fn act(
+        &mut self,
+        alloc: Global,
+        line: u32,
+        kind: Kind,
+        list: &[Token],
+        fresh: bool,
+    ) -> Result<(), Pre>
         requires { length self.old.tokens.items ≤ 131072 }
         ensures step { Steps (directive_step 1024 (state_of self.old) line kind (plain_tokens list.now) fresh) (state_of self.new) result }
         ensures within { length self.new.tokens.items ≤ 131072 }
@@ -345,12 +362,22 @@ impl Reader {
             Kind::Endif => return self.endif(line, list),
             Kind::Line => return self.line(alloc, line, list),
         };
-        if holds { Ok(()) } else { Err(Pre::Directive(line)) }
+        if holds {
+            Ok(())
+        } else {
+            Err(Pre::Directive(line))
+        }
     }
 
     /// A directive with the tokens behind its `#`. One more `#` among them fails first, but in a `#pragma`.
     #[tactic(auto, unfolding(crate::specs::Expansion::directive))]
-    fn directive(&mut self, alloc: Global, line: u32, list: &[Token], fresh: bool) -> Result<(), Pre>
+    fn directive(
+        &mut self,
+        alloc: Global,
+        line: u32,
+        list: &[Token],
+        fresh: bool,
+    ) -> Result<(), Pre>
         requires { length self.old.tokens.items ≤ 131072 }
         ensures step { Steps (directive 1024 (state_of self.old) line (plain_tokens list.now) fresh) (state_of self.new) result }
         ensures within { length self.new.tokens.items ≤ 131072 }
@@ -382,7 +409,13 @@ impl Reader {
     }
 
     /// A directive within lines that are not read, in the conditional that skips them.
-    fn skip_outer(&mut self, alloc: Global, line: u32, list: &[Token], kind: Kind) -> Result<(), Pre>
+    fn skip_outer(
+        &mut self,
+        alloc: Global,
+        line: u32,
+        list: &[Token],
+        kind: Kind,
+    ) -> Result<(), Pre>
         requires { length self.old.tokens.items ≤ 131072 }
         ensures step { Steps (skipping_outer 1024 (state_of self.old) line (plain_tokens list.now) kind) (state_of self.new) result }
         ensures within { length self.new.tokens.items ≤ 131072 }

@@ -16,8 +16,7 @@ use std::alloc::{AllocError, Global};
 pub const WORK: u32 = 16_777_216;
 
 /// Takes one token from the work that is left.
-fn spend(work: &mut u32) -> Result<(), Pre>
-{
+fn spend(work: &mut u32) -> Result<(), Pre> {
     if *work == 0 {
         return Err(Pre::Memory);
     }
@@ -26,7 +25,11 @@ fn spend(work: &mut u32) -> Result<(), Pre>
 }
 
 /// The argument for a name, among those of the parameters.
-fn argument_of<'a>(parameters: &[Vec<u8>], arguments: &'a [Vec<Token>], name: &[u8]) -> Option<&'a Vec<Token>>
+fn argument_of<'a>(
+    parameters: &[Vec<u8>],
+    arguments: &'a [Vec<Token>],
+    name: &[u8],
+) -> Option<&'a Vec<Token>>
     ensures { option_map (λ v. plain_tokens v.now.items) result ≡ argument_of (texts parameters.now) (lists arguments.now) name.now }
 {
     let mut names = parameters;
@@ -77,7 +80,13 @@ fn substituted(
     let mut rest = body;
     while !rest.is_empty() {
         let token = &rest[0];
-        append_argument(alloc, &mut out, argument_of(parameters, arguments, token.text.as_slice()), token, line)?;
+        append_argument(
+            alloc,
+            &mut out,
+            argument_of(parameters, arguments, token.text.as_slice()),
+            token,
+            line,
+        )?;
         rest = rest.split_at(1).1;
     }
     Ok(out)
@@ -158,7 +167,9 @@ pub fn expand_list(
                 }
             }
             Use::Call(m, arguments) => {
-                match expand_call(alloc, macros, below, hidden, work, token, m, &arguments, out, limit) {
+                match expand_call(
+                    alloc, macros, below, hidden, work, token, m, &arguments, out, limit,
+                ) {
                     Ok(()) => rest = tail.split_at(arguments.count).1,
                     Err(e) => return Err(e),
                 }
@@ -220,7 +231,17 @@ fn expand_object(
     let Ok(()) = append_at_line(alloc, &mut list, m.body.as_slice(), name.line) else {
         return Err(Pre::Memory);
     };
-    rescan(alloc, macros, levels, hidden, work, name.text.as_slice(), list.as_slice(), out, limit)
+    rescan(
+        alloc,
+        macros,
+        levels,
+        hidden,
+        work,
+        name.text.as_slice(),
+        list.as_slice(),
+        out,
+        limit,
+    )
 }
 
 /// What an argument's expansion answers of the call: an argument may have any number of tokens.
@@ -250,7 +271,16 @@ fn expand_arguments(
     let mut rest = arguments;
     while !rest.is_empty() {
         let mut tokens = Vec::new(alloc);
-        match expand_list(alloc, macros, levels, hidden, work, rest[0].as_slice(), &mut tokens, WORK as usize) {
+        match expand_list(
+            alloc,
+            macros,
+            levels,
+            hidden,
+            work,
+            rest[0].as_slice(),
+            &mut tokens,
+            WORK as usize,
+        ) {
             Ok(()) => {}
             Err(e) => return Err(argument_error(e)),
         }
@@ -281,15 +311,38 @@ fn expand_call(
     ensures hidden { OnOk result (texts hidden.new.items ≡ texts hidden.old.items) }
     ensures within { length out.new.items ≤ limit }
 {
-    let lists = match expand_arguments(alloc, macros, levels, hidden, work, arguments.lists.as_slice()) {
+    let lists = match expand_arguments(
+        alloc,
+        macros,
+        levels,
+        hidden,
+        work,
+        arguments.lists.as_slice(),
+    ) {
         Ok(lists) => lists,
         Err(e) => return Err(e),
     };
     let parameters = parameters_of(m);
-    let Ok(list) = substituted(alloc, parameters, lists.as_slice(), name.line, m.body.as_slice()) else {
+    let Ok(list) = substituted(
+        alloc,
+        parameters,
+        lists.as_slice(),
+        name.line,
+        m.body.as_slice(),
+    ) else {
         return Err(Pre::Memory);
     };
-    rescan(alloc, macros, levels, hidden, work, name.text.as_slice(), list.as_slice(), out, limit)
+    rescan(
+        alloc,
+        macros,
+        levels,
+        hidden,
+        work,
+        name.text.as_slice(),
+        list.as_slice(),
+        out,
+        limit,
+    )
 }
 
 /// The parameters of a macro, none where it takes no list of them.

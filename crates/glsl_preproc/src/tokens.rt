@@ -150,7 +150,11 @@ pub fn append_at_line(
 }
 
 /// Adds copies of tokens.
-pub fn append_copies(alloc: Global, out: &mut Vec<Token>, tokens: &[Token]) -> Result<(), AllocError>
+pub fn append_copies(
+    alloc: Global,
+    out: &mut Vec<Token>,
+    tokens: &[Token],
+) -> Result<(), AllocError>
     ensures { OnOk result (plain_tokens out.new.items ≡ plain_tokens out.old.items ++ plain_tokens tokens.now) }
 {
     for token in tokens {

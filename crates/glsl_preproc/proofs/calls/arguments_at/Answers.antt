@@ -14,8 +14,8 @@ loop-rest-preserved-in_ok-push_copy c =
     let count : 1 + (length c.args.list.now - length c.split_at.result.1.now) ≡ n + 1 = omega arith in
     record {
       rest = (λ i. arguments_from (lists c.loop-rest.lists.items) (c.in_ok-push_copy.ensures i) (c.loop-rest.depth + 1) (count i) (plain_tokens (c.split_at.ensures.back i)))
-        ∙ sym (args_open (lists c.loop-rest.lists.items) (plain_tokens c.loop-rest.current.items) c.loop-rest.depth n rest c.index-rest-0.result some c.index-rest-0.is (sym c.opens.ensures ∙ c.if-opens.true))
-        ∙ c.loop-rest.invariant.rest;
+          ∙ sym (args_open (lists c.loop-rest.lists.items) (plain_tokens c.loop-rest.current.items) c.loop-rest.depth n rest c.index-rest-0.result some c.index-rest-0.is (sym c.opens.ensures ∙ c.if-opens.true))
+          ∙ c.loop-rest.invariant.rest;
       within = omega arith;
       depth = omega arith;
     }
@@ -39,8 +39,8 @@ loop-rest-preserved-in_ok-push_list-2 c =
     let parts = sym c.parts_arguments.ensures ∙ c.if-parts_arguments.true in
     record {
       rest = (λ i. arguments_from (c.in_ok-push_list-2.ensures i) (plain_tokens (c.new-current-then-parts_arguments.ensures.items i)) (depth_zero c.loop-rest.depth _ parts i) (count i) (plain_tokens (c.split_at.ensures.back i)))
-        ∙ sym (args_part (lists c.loop-rest.lists.items) (plain_tokens c.loop-rest.current.items) c.loop-rest.depth n rest c.index-rest-0.result some c.index-rest-0.is (sym c.opens.ensures ∙ c.if-opens.false) (sym c.ends_call.ensures ∙ c.if-ends_call.false) parts)
-        ∙ c.loop-rest.invariant.rest;
+          ∙ sym (args_part (lists c.loop-rest.lists.items) (plain_tokens c.loop-rest.current.items) c.loop-rest.depth n rest c.index-rest-0.result some c.index-rest-0.is (sym c.opens.ensures ∙ c.if-opens.false) (sym c.ends_call.ensures ∙ c.if-ends_call.false) parts)
+          ∙ c.loop-rest.invariant.rest;
       within = omega arith;
       depth = omega arith;
     }
@@ -53,8 +53,8 @@ loop-rest-preserved c =
     let count : 1 + (length c.args.list.now - length c.split_at.result.1.now) ≡ n + 1 = omega arith in
     record {
       rest = (λ i. arguments_from (lists c.loop-rest.lists.items) (c.in_ok-push_copy-2.ensures i) (c.depth_behind-depth.ensures.depth i) (count i) (plain_tokens (c.split_at.ensures.back i)))
-        ∙ sym (args_other (lists c.loop-rest.lists.items) (plain_tokens c.loop-rest.current.items) c.loop-rest.depth n rest c.index-rest-0.result some c.index-rest-0.is (sym c.opens.ensures ∙ c.if-opens.false) (sym c.ends_call.ensures ∙ c.if-ends_call.false) (sym c.parts_arguments.ensures ∙ c.if-parts_arguments.false))
-        ∙ c.loop-rest.invariant.rest;
+          ∙ sym (args_other (lists c.loop-rest.lists.items) (plain_tokens c.loop-rest.current.items) c.loop-rest.depth n rest c.index-rest-0.result some c.index-rest-0.is (sym c.opens.ensures ∙ c.if-opens.false) (sym c.ends_call.ensures ∙ c.if-ends_call.false) (sym c.parts_arguments.ensures ∙ c.if-parts_arguments.false))
+          ∙ c.loop-rest.invariant.rest;
       within = omega arith;
       depth = omega arith;
     }

@@ -15,13 +15,13 @@ pub expression-returns-in-Wrong-clause-parsed : goal.expression-returns-in-Wrong
 expression-returns-in-Wrong-clause-parsed t c =
     let list = plain_tokens c.args.list.now in
     sym (expression_more (operand_within c.args.levels) (c.args.level - 1) c.args.level list (omega arith)
-      ∙ ap (chain_behind (expression_at (operand_within c.args.levels) (c.args.level - 1)) c.args.level list) (sym c.in-Wrong.ensures.parsed))
+    ∙ ap (chain_behind (expression_at (operand_within c.args.levels) (c.args.level - 1)) c.args.level list) (sym c.in-Wrong.ensures.parsed))
 
 pub expression-returns-in-TooDeep-clause-parsed : goal.expression-returns-in-TooDeep-clause-parsed
 expression-returns-in-TooDeep-clause-parsed t c =
     let list = plain_tokens c.args.list.now in
     sym (expression_more (operand_within c.args.levels) (c.args.level - 1) c.args.level list (omega arith)
-      ∙ ap (chain_behind (expression_at (operand_within c.args.levels) (c.args.level - 1)) c.args.level list) (sym c.in-TooDeep.ensures.parsed))
+    ∙ ap (chain_behind (expression_at (operand_within c.args.levels) (c.args.level - 1)) c.args.level list) (sym c.in-TooDeep.ensures.parsed))
 
 pub expression-loop-rest-init : goal.expression-loop-rest-init
 expression-loop-rest-init t c =
@@ -29,9 +29,9 @@ expression-loop-rest-init t c =
     let operand = expression_at (operand_within c.args.levels) (c.args.level - 1) in
     record {
       rest = ap (λ l. chain_from operand c.args.level c.in-Read.value c.in-Read.count 0 (plain_tokens l)) c.split_at.ensures.back
-        ∙ sym (chain_skip operand c.args.level c.in-Read.value c.in-Read.count c.in-Read.count c.args.list.now)
-        ∙ ap (chain_behind operand c.args.level list) c.in-Read.ensures.parsed
-        ∙ sym (expression_more (operand_within c.args.levels) (c.args.level - 1) c.args.level list (omega arith));
+          ∙ sym (chain_skip operand c.args.level c.in-Read.value c.in-Read.count c.in-Read.count c.args.list.now)
+          ∙ ap (chain_behind operand c.args.level list) c.in-Read.ensures.parsed
+          ∙ sym (expression_more (operand_within c.args.levels) (c.args.level - 1) c.args.level list (omega arith));
       count = omega arith;
     }
 
@@ -54,11 +54,11 @@ expression-loop-rest-preserved t c =
     let total : count + (1 + taken) ≡ count + 1 + taken = omega arith in
     record {
       rest = (λ i. chain_from operand c.args.level (c.applied-value.ensures i) (total i) 0 (plain_tokens (c.split_at-in-Read-expression.ensures.back i)))
-        ∙ ap (λ l. chain_from operand c.args.level (applied op v c.in-Read-expression.right) (count + 1 + taken) 0 (plain_tokens (drop taken l))) c.split_at-in-loop-rest.ensures.back
-        ∙ sym (chain_at operand c.args.level v count rest c.index-rest-0.result (Some op) some c.index-rest-0.is c.in-Some.ensures
-            ∙ ap (chained operand c.args.level v count (plain_tokens (drop 1 rest)) op) (sym parsed)
-            ∙ chain_skip operand c.args.level (applied op v c.in-Read-expression.right) (count + 1 + taken) taken (drop 1 rest))
-        ∙ c.loop-rest.invariant.rest;
+          ∙ ap (λ l. chain_from operand c.args.level (applied op v c.in-Read-expression.right) (count + 1 + taken) 0 (plain_tokens (drop taken l))) c.split_at-in-loop-rest.ensures.back
+          ∙ sym (chain_at operand c.args.level v count rest c.index-rest-0.result (Some op) some c.index-rest-0.is c.in-Some.ensures
+          ∙ ap (chained operand c.args.level v count (plain_tokens (drop 1 rest)) op) (sym parsed)
+          ∙ chain_skip operand c.args.level (applied op v c.in-Read-expression.right) (count + 1 + taken) taken (drop 1 rest))
+          ∙ c.loop-rest.invariant.rest;
       count = omega arith;
     }
 
@@ -69,7 +69,7 @@ expression-returns-in-Wrong-expression-clause-parsed t c =
     let some = some_items rest _ c.is_empty.ensures c.loop-rest-test.true in
     let parsed = c.in-Wrong-expression.ensures.parsed ∙ ap (λ l. operand (plain_tokens l)) c.split_at-in-loop-rest.ensures.back in
     sym (chain_at operand c.args.level c.loop-rest.value c.loop-rest.count rest c.index-rest-0.result (Some c.in-Some.op) some c.index-rest-0.is c.in-Some.ensures
-        ∙ ap (chained operand c.args.level c.loop-rest.value c.loop-rest.count (plain_tokens (drop 1 rest)) c.in-Some.op) (sym parsed))
+    ∙ ap (chained operand c.args.level c.loop-rest.value c.loop-rest.count (plain_tokens (drop 1 rest)) c.in-Some.op) (sym parsed))
     ∙ c.loop-rest.invariant.rest
 
 pub expression-returns-in-TooDeep-expression-clause-parsed : goal.expression-returns-in-TooDeep-expression-clause-parsed
@@ -79,7 +79,7 @@ expression-returns-in-TooDeep-expression-clause-parsed t c =
     let some = some_items rest _ c.is_empty.ensures c.loop-rest-test.true in
     let parsed = c.in-TooDeep-expression.ensures.parsed ∙ ap (λ l. operand (plain_tokens l)) c.split_at-in-loop-rest.ensures.back in
     sym (chain_at operand c.args.level c.loop-rest.value c.loop-rest.count rest c.index-rest-0.result (Some c.in-Some.op) some c.index-rest-0.is c.in-Some.ensures
-        ∙ ap (chained operand c.args.level c.loop-rest.value c.loop-rest.count (plain_tokens (drop 1 rest)) c.in-Some.op) (sym parsed))
+    ∙ ap (chained operand c.args.level c.loop-rest.value c.loop-rest.count (plain_tokens (drop 1 rest)) c.in-Some.op) (sym parsed))
     ∙ c.loop-rest.invariant.rest
 
 pub expression-returns-clause-parsed : goal.expression-returns-clause-parsed

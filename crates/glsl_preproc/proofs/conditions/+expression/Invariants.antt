@@ -13,7 +13,7 @@ decreases-expression l = 12 * l.levels + l.level + 1
 abbrev pub invariant-expression-loop-rest : goal.invariant-expression-loop-rest
 invariant-expression-loop-rest l = record {
   rest : chain_from (expression_at (operand_within l.levels) (l.level - 1)) l.level l.value l.count 0 (plain_tokens l.rest)
-    ≡ expression_at (operand_within l.levels) l.level (plain_tokens l.list);
+      ≡ expression_at (operand_within l.levels) l.level (plain_tokens l.list);
   count : l.count + length l.rest ≡ length l.list;
 }
 

@@ -32,7 +32,7 @@ loop-rest-preserved c =
     (λ i. answered_from macros (pushed i) 0 (plain_tokens (c.split_at-in-Of.ensures.back i)))
     ∙ ap (λ l. answered_from macros (done ++ answer_token (is_defined macros name) ∷ []) 0 (plain_tokens (drop c.in-Of.count l))) c.split_at.ensures.back
     ∙ sym (answered_at macros done rest x (Of name c.in-Of.count) some c.index-rest-0.is asked
-        ∙ answered_skip macros (done ++ answer_token (is_defined macros name) ∷ []) c.in-Of.count (drop 1 rest))
+    ∙ answered_skip macros (done ++ answer_token (is_defined macros name) ∷ []) c.in-Of.count (drop 1 rest))
     ∙ c.loop-rest.invariant
 
 pub returns-in-Broken : goal.returns-in-Broken

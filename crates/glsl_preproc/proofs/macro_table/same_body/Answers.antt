@@ -12,14 +12,14 @@ returns-then-is_empty c =
 pub returns-then-not-same_token : goal.returns-then-not-same_token
 returns-then-not-same_token c =
     sym (body_first c.loop-xs.xs.now c.loop-xs.ys.now c.index-xs-0.result c.index-ys-0.result (some_items _ _ c.is_empty.ensures c.loop-xs-test.true) (some_items _ _ c.is_empty-in-loop-xs.ensures c.if-is_empty.false) c.index-xs-0.is c.index-ys-0.is
-        ∙ ap (λ b. b && same_body (plain_tokens (drop 1 c.loop-xs.xs.now)) (plain_tokens (drop 1 c.loop-xs.ys.now))) (sym c.same_token.ensures ∙ c.if-not-same_token.true))
+    ∙ ap (λ b. b && same_body (plain_tokens (drop 1 c.loop-xs.xs.now)) (plain_tokens (drop 1 c.loop-xs.ys.now))) (sym c.same_token.ensures ∙ c.if-not-same_token.true))
     ∙ c.loop-xs.invariant
 
 pub loop-xs-preserved : goal.loop-xs-preserved
 loop-xs-preserved c =
     (λ i. same_body (plain_tokens (c.split_at.ensures.back i)) (plain_tokens (c.split_at-in-loop-xs.ensures.back i)))
     ∙ sym (body_first c.loop-xs.xs.now c.loop-xs.ys.now c.index-xs-0.result c.index-ys-0.result (some_items _ _ c.is_empty.ensures c.loop-xs-test.true) (some_items _ _ c.is_empty-in-loop-xs.ensures c.if-is_empty.false) c.index-xs-0.is c.index-ys-0.is
-        ∙ ap (λ b. b && same_body (plain_tokens (drop 1 c.loop-xs.xs.now)) (plain_tokens (drop 1 c.loop-xs.ys.now))) (sym c.same_token.ensures ∙ c.if-not-same_token.false))
+    ∙ ap (λ b. b && same_body (plain_tokens (drop 1 c.loop-xs.xs.now)) (plain_tokens (drop 1 c.loop-xs.ys.now))) (sym c.same_token.ensures ∙ c.if-not-same_token.false))
     ∙ c.loop-xs.invariant
 
 pub returns : goal.returns

@@ -13,14 +13,14 @@ returns-then-is_empty c =
 pub returns-then-not-same_text : goal.returns-then-not-same_text
 returns-then-not-same_text c =
     sym (names_first c.loop-xs.xs.now c.loop-xs.ys.now c.index-xs-0.result c.index-ys-0.result (some_items _ _ c.is_empty.ensures c.loop-xs-test.true) (some_items _ _ c.is_empty-in-loop-xs.ensures c.if-is_empty.false) c.index-xs-0.is c.index-ys-0.is
-        ∙ ap (λ b. b && same_names (texts (drop 1 c.loop-xs.xs.now)) (texts (drop 1 c.loop-xs.ys.now))) ((λ i. bytes_eq (sym c.as_slice.ensures.value i) (sym c.as_slice-in-loop-xs.ensures.value i)) ∙ sym c.same_text.ensures ∙ c.if-not-same_text.true))
+    ∙ ap (λ b. b && same_names (texts (drop 1 c.loop-xs.xs.now)) (texts (drop 1 c.loop-xs.ys.now))) ((λ i. bytes_eq (sym c.as_slice.ensures.value i) (sym c.as_slice-in-loop-xs.ensures.value i)) ∙ sym c.same_text.ensures ∙ c.if-not-same_text.true))
     ∙ c.loop-xs.invariant
 
 pub loop-xs-preserved : goal.loop-xs-preserved
 loop-xs-preserved c =
     (λ i. same_names (texts (c.split_at.ensures.back i)) (texts (c.split_at-in-loop-xs.ensures.back i)))
     ∙ sym (names_first c.loop-xs.xs.now c.loop-xs.ys.now c.index-xs-0.result c.index-ys-0.result (some_items _ _ c.is_empty.ensures c.loop-xs-test.true) (some_items _ _ c.is_empty-in-loop-xs.ensures c.if-is_empty.false) c.index-xs-0.is c.index-ys-0.is
-        ∙ ap (λ b. b && same_names (texts (drop 1 c.loop-xs.xs.now)) (texts (drop 1 c.loop-xs.ys.now))) ((λ i. bytes_eq (sym c.as_slice.ensures.value i) (sym c.as_slice-in-loop-xs.ensures.value i)) ∙ sym c.same_text.ensures ∙ c.if-not-same_text.false))
+    ∙ ap (λ b. b && same_names (texts (drop 1 c.loop-xs.xs.now)) (texts (drop 1 c.loop-xs.ys.now))) ((λ i. bytes_eq (sym c.as_slice.ensures.value i) (sym c.as_slice-in-loop-xs.ensures.value i)) ∙ sym c.same_text.ensures ∙ c.if-not-same_text.false))
     ∙ c.loop-xs.invariant
 
 pub returns : goal.returns

@@ -23,7 +23,7 @@ decreases-expand_call l = 4 * l.levels + 3
 abbrev pub invariant-expand_list-loop-rest : goal.invariant-expand_list-loop-rest
 invariant-expand_list-loop-rest l = record {
   rest : list_from (expanded l.below (plain_macros l.macros)) (plain_macros l.macros) (texts l.hidden.items) (plain_tokens l.out.items) 0 (plain_tokens l.rest)
-    ≡ expanded l.levels (plain_macros l.macros) (texts l.fn.hidden.items) (plain_tokens l.fn.out.items) (plain_tokens l.list);
+      ≡ expanded l.levels (plain_macros l.macros) (texts l.fn.hidden.items) (plain_tokens l.fn.out.items) (plain_tokens l.list);
   hidden : texts l.hidden.items ≡ texts l.fn.hidden.items;
   within : length l.out.items ≤ l.limit;
   levels : l.below + 1 ≡ l.levels;
@@ -36,7 +36,7 @@ decreases-expand_list-loop-rest l = length l.rest
 abbrev pub invariant-expand_arguments-loop-rest : goal.invariant-expand_arguments-loop-rest
 invariant-expand_arguments-loop-rest l = record {
   rest : expanded_arguments (expanded l.levels (plain_macros l.macros) (texts l.fn.hidden.items) []) (lists l.done.items) (lists l.rest)
-    ≡ expanded_arguments (expanded l.levels (plain_macros l.macros) (texts l.fn.hidden.items) []) [] (lists l.arguments);
+      ≡ expanded_arguments (expanded l.levels (plain_macros l.macros) (texts l.fn.hidden.items) []) [] (lists l.arguments);
   hidden : texts l.hidden.items ≡ texts l.fn.hidden.items;
 }
 

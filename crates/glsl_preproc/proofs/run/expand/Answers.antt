@@ -33,7 +33,7 @@ returns-in-Err c =
     let same = length-map c.line_of.new.self.tokens.items plain in
     let within : length c.line_of.new.self.tokens.items ≤ 131072 = c.in-Err.ensures.within in
     err_answer 1024 (plain_tokens c.args.tokens.now) new.tokens (lines_from 1024 s (plain_tokens (take k start)) (plain_tokens rest)) c.in-Err.e c.loop-rest.invariant.rest (omega arith)
-      (line_fails 1024 s new start rest c.index-rest-0.result k c.in-Err.e some c.index-rest-0.is (sym c.is_line_end.ensures ∙ c.if-is_line_end.true) step)
+    (line_fails 1024 s new start rest c.index-rest-0.result k c.in-Err.e some c.index-rest-0.is (sym c.is_line_end.ensures ∙ c.if-is_line_end.true) step)
 
 pub loop-rest-preserved-in-Ok-line_of : goal.loop-rest-preserved-in-Ok-line_of
 loop-rest-preserved-in-Ok-line_of c =
@@ -48,9 +48,9 @@ loop-rest-preserved-in-Ok-line_of c =
     let step = ap (λ l. line_of 1024 s (plain_tokens l)) (sym c.split_at-then-is_line_end.ensures.front) ∙ c.in-Ok-line_of.ensures.step in
     record {
       rest = ap (λ j. lines_from 1024 new (plain_tokens (take j tail)) (plain_tokens tail)) none
-        ∙ ap (λ l. lines_from 1024 new [] (plain_tokens l)) c.split_at.ensures.back
-        ∙ sym (line_done 1024 s new start rest c.index-rest-0.result k some c.index-rest-0.is (sym c.is_line_end.ensures ∙ c.if-is_line_end.true) step)
-        ∙ c.loop-rest.invariant.rest;
+          ∙ ap (λ l. lines_from 1024 new [] (plain_tokens l)) c.split_at.ensures.back
+          ∙ sym (line_done 1024 s new start rest c.index-rest-0.result k some c.index-rest-0.is (sym c.is_line_end.ensures ∙ c.if-is_line_end.true) step)
+          ∙ c.loop-rest.invariant.rest;
       place = ap (λ j. drop j tail) none;
       within = omega arith;
       tokens = c.in-Ok-line_of.ensures.within;
@@ -69,8 +69,8 @@ loop-rest-preserved c =
     let inside : k < length start = omega arith in
     record {
       rest = ap (λ l. lines_from 1024 s (plain_tokens (take j start)) (plain_tokens l)) c.split_at.ensures.back
-        ∙ line_more 1024 s start rest c.index-rest-0.result k j c.loop-rest.invariant.place more inside some c.index-rest-0.is (sym c.is_line_end.ensures ∙ c.if-is_line_end.false)
-        ∙ c.loop-rest.invariant.rest;
+          ∙ line_more 1024 s start rest c.index-rest-0.result k j c.loop-rest.invariant.place more inside some c.index-rest-0.is (sym c.is_line_end.ensures ∙ c.if-is_line_end.false)
+          ∙ c.loop-rest.invariant.rest;
       place = place_more start rest k j c.loop-rest.invariant.place more ∙ sym c.split_at.ensures.back;
       within = omega arith;
       tokens = c.loop-rest.invariant.tokens;
@@ -88,7 +88,7 @@ returns-in-Err-line_of c =
     let same = length-map c.line_of-2.new.self.tokens.items plain in
     let within : length c.line_of-2.new.self.tokens.items ≤ 131072 = c.in-Err-line_of.ensures.within in
     err_answer 1024 (plain_tokens c.args.tokens.now) new.tokens (lines_from 1024 s (plain_tokens start) []) c.in-Err-line_of.e whole (omega arith)
-      (err_last 1024 s new (plain_tokens start) c.in-Err-line_of.e c.in-Err-line_of.ensures.step)
+    (err_last 1024 s new (plain_tokens start) c.in-Err-line_of.e c.in-Err-line_of.ensures.step)
 
 pub returns-in-Ok-finish : goal.returns-in-Ok-finish
 returns-in-Ok-finish c =
@@ -113,4 +113,4 @@ returns-in-Err-finish c =
     let same = length-map c.finish.new.self.tokens.items plain in
     let within : length c.finish.new.self.tokens.items ≤ 131072 = c.in-Err-finish.ensures.within in
     err_answer 1024 (plain_tokens c.args.tokens.now) (plain_tokens c.finish.new.self.tokens.items) (finished 1024 new) c.in-Err-finish.e
-      (sym (ok_last 1024 s new (plain_tokens start) c.in-Ok-line_of-2.ensures.step) ∙ whole) (omega arith) c.in-Err-finish.ensures.outcome
+    (sym (ok_last 1024 s new (plain_tokens start) c.in-Ok-line_of-2.ensures.step) ∙ whole) (omega arith) c.in-Err-finish.ensures.outcome

@@ -9,4 +9,4 @@ pub returns : goal.returns
 returns c =
     let P : ℤ → Type 0 = λ z. OkIff c.try_from.result (FitsSigned w32 z) z in
     ok_fitting c.ok.result c.try_from.result (c.args.a *ℤ pos (2 ^ c.args.n)) c.ok.ensures.value
-      (subst P (product_is c.args.a c.from.result c.from-2.result c.args.n c.ranges.a c.requires c.from.ensures c.from-2.ensures) c.try_from.ensures)
+    (subst P (product_is c.args.a c.from.result c.from-2.result c.args.n c.ranges.a c.requires c.from.ensures c.from-2.ensures) c.try_from.ensures)
