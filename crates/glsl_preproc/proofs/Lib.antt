@@ -1,0 +1,12 @@
+pub mod Items
+pub mod Same
+pub mod Fitting
+pub mod Arguments
+pub mod ArgumentLists
+pub mod Substitution
+pub mod Expanding
+pub mod Answering
+pub mod Expressions
+pub mod Defining
+pub mod Lines
+pub mod Ways

@@ -1,0 +1,10 @@
+pub mod Macros
+pub mod Replacement
+pub mod Values
+pub mod Conditions
+pub mod Directives
+pub mod Expansion
+pub mod Views
+pub mod ConditionViews
+pub mod DirectiveViews
+pub mod ReaderViews

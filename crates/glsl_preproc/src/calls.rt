@@ -1,0 +1,169 @@
+ghost use Rattle.std.specs.Prelude.{◌≡◌, ◌≤◌, ◌<◌, ◌+◌, ◌-◌, ◌==◌, ◌&&◌, if◌then◌else◌, [], IfOk, IfSome, length};
+ghost use Rattle.std.specs.List.{list_any};
+ghost use Rattle.std.specs.Str.{bytes_eq};
+ghost use Rattle.glsl_tree.specs.Token.{plain, plain_tokens};
+ghost use Rattle.glsl_preproc.specs.Replacement.{opens, closes, is_comma, arguments_from, fits_parameters, used, use_of};
+ghost use Rattle.glsl_preproc.specs.Views.{plain_macro, plain_macros, texts, found_of, lists, use_view, IsWithin};
+
+use crate::macro_table::find_macro;
+use crate::macros::Macro;
+use crate::tokens::{closes, is_comma, is_name, is_text, opens, push_copy, push_list};
+use glsl_tree::Token;
+use std::alloc::{AllocError, Global};
+
+/// The arguments of a call, and how many tokens it takes behind its name.
+#[derive(Debug, Drop)]
+pub struct Arguments {
+    /// The tokens of each argument.
+    pub lists: Vec<Vec<Token>>,
+    /// How many tokens stand from the `(` to the `)`.
+    pub count: usize,
+}
+
+/// What a token is in the list that is expanded.
+#[derive(Debug, Drop)]
+pub enum Use<'a> {
+    /// It is kept as it is.
+    Kept,
+    /// `__LINE__`.
+    LineNumber,
+    /// The name of a macro without parameters.
+    Object(&'a Macro),
+    /// A call of a macro, with its arguments.
+    Call(&'a Macro, Arguments),
+    /// A call with another number of arguments.
+    WrongCount,
+}
+
+/// Whether the token closes the call, where so many brackets are open in it.
+fn ends_call(depth: usize, token: &Token) -> bool
+    ensures { result ≡ (depth == 0 && closes (plain token.now)) }
+{
+    depth == 0 && closes(token)
+}
+
+/// Whether the token parts two arguments, where so many brackets are open in the call.
+fn parts_arguments(depth: usize, token: &Token) -> bool
+    ensures { result ≡ (depth == 0 && is_comma (plain token.now)) }
+{
+    depth == 0 && is_comma(token)
+}
+
+/// How many brackets are open behind the token, which opens none.
+fn depth_behind(depth: usize, token: &Token) -> usize
+    ensures depth { result ≡ (if closes (plain token.now) then depth - 1 else depth) }
+    ensures within { result ≤ depth }
+{
+    if closes(token) {
+        depth.saturating_sub(1)
+    } else {
+        depth
+    }
+}
+
+/// The arguments of a call, from the first token behind its `(` on, if its `)` comes.
+pub fn arguments_at(alloc: Global, list: &[Token]) -> Result<Option<Arguments>, AllocError>
+    ensures found { IfOk result (λ found. found_of found ≡ arguments_from [] [] 0 1 (plain_tokens list.now)) }
+    ensures within { IfOk result (λ found. IfSome found (λ a. a.count ≤ length list.now + 1)) }
+{
+    let mut lists = Vec::new(alloc);
+    let mut current = Vec::new(alloc);
+    let mut depth = 0usize;
+    let mut rest = list;
+    while !rest.is_empty() {
+        let token = &rest[0];
+        let tail = rest.split_at(1).1;
+        if opens(token) {
+            depth += 1;
+            push_copy(alloc, &mut current, token)?;
+        } else if ends_call(depth, token) {
+            push_list(&mut lists, current)?;
+            let count = 1 + (list.len() - tail.len());
+            return Ok(Some(Arguments { lists, count }));
+        } else if parts_arguments(depth, token) {
+            push_list(&mut lists, current)?;
+            current = Vec::new(alloc);
+        } else {
+            depth = depth_behind(depth, token);
+            push_copy(alloc, &mut current, token)?;
+        }
+        rest = tail;
+    }
+    Ok(None)
+}
+
+/// Whether there are as many arguments as parameters. No parameter takes one argument without tokens.
+fn fits_parameters(parameters: &[Vec<u8>], arguments: &[Vec<Token>]) -> bool
+    ensures { result ≡ fits_parameters (texts parameters.now) (lists arguments.now) }
+{
+    if parameters.is_empty() {
+        match arguments {
+            [only] => only.is_empty(),
+            _ => false,
+        }
+    } else {
+        parameters.len() == arguments.len()
+    }
+}
+
+/// What a macro's name is, with the tokens behind it.
+fn use_of_macro<'a>(alloc: Global, m: &'a Macro, rest: &[Token]) -> Result<Use<'a>, AllocError>
+    ensures used { IfOk result (λ found. use_view found ≡ used (plain_macro m.now) (plain_macro m.now).parameters (plain_tokens rest.now)) }
+    ensures within { IfOk result (λ found. IsWithin (plain_tokens rest.now) found) }
+{
+    let Some(parameters) = &m.parameters else {
+        return Ok(Use::Object(m));
+    };
+    match rest {
+        [first, tail @ ..] if opens(first) => {
+            let Some(arguments) = arguments_at(alloc, tail)? else {
+                return Ok(Use::Kept);
+            };
+            if fits_parameters(parameters.as_slice(), arguments.lists.as_slice()) {
+                Ok(Use::Call(m, arguments))
+            } else {
+                Ok(Use::WrongCount)
+            }
+        }
+        _ => Ok(Use::Kept),
+    }
+}
+
+/// Whether a name is hidden.
+fn is_hidden(hidden: &[Vec<u8>], name: &[u8]) -> bool
+    ensures { result ≡ list_any (λ h. bytes_eq h name.now) (texts hidden.now) }
+{
+    for h in hidden {
+        if h.as_slice() == name {
+            return true;
+        }
+    }
+    false
+}
+
+/// What a token is, with the tokens behind it in its list, where some names are hidden.
+#[tactic(auto, unfolding(crate::specs::Replacement::use_of))]
+pub fn use_of<'a>(
+    alloc: Global,
+    macros: &'a [Macro],
+    hidden: &[Vec<u8>],
+    token: &Token,
+    rest: &[Token],
+) -> Result<Use<'a>, AllocError>
+    ensures used { IfOk result (λ found. use_view found ≡ use_of (plain_macros macros.now) (texts hidden.now) (plain token.now) (plain_tokens rest.now)) }
+    ensures within { IfOk result (λ found. IsWithin (plain_tokens rest.now) found) }
+{
+    if !is_name(token) {
+        return Ok(Use::Kept);
+    }
+    if is_text(token, b"__LINE__") {
+        return Ok(Use::LineNumber);
+    }
+    if is_hidden(hidden, token.text.as_slice()) {
+        return Ok(Use::Kept);
+    }
+    match find_macro(macros, token.text.as_slice()) {
+        None => Ok(Use::Kept),
+        Some(m) => use_of_macro(alloc, m, rest),
+    }
+}

@@ -1,0 +1,316 @@
+ghost use Rattle.std.specs.Prelude.{◌≡◌, ◌≤◌, ◌<◌, ◌+◌, ◌^◌, [], ◌∷◌, ◌++◌, IfOk, OnOk, length};
+ghost use Rattle.glsl_tree.specs.Token.{plain, plain_tokens};
+ghost use Rattle.glsl_preproc.specs.Values.{operator_of};
+ghost use Rattle.glsl_preproc.specs.Conditions.{asked_at, answer_token, answered_from, primary_of, in_brackets, behind_sign, at_level, expression_at, operand_within, condition, judged};
+ghost use Rattle.glsl_preproc.specs.Views.{plain_macros};
+ghost use Rattle.glsl_preproc.specs.ConditionViews.{answered_of, asked_of, IsAskedWithin, signed, sign_of, parsed_of, IsParsedWithin, judged_of, IsJudged};
+
+use crate::errors::Pre;
+use crate::macro_table::is_defined;
+use crate::macros::Macro;
+use crate::numbers::int_value;
+use crate::operators::Operator;
+use crate::replacement::{WORK, expand_list};
+use crate::tokens::{closes, is_name, is_text, number_token, opens, push_copy};
+use crate::values::{applied, complemented, inverted, level_of, negated, operator_of};
+use glsl_tree::{Class, Token};
+use std::alloc::{AllocError, Global};
+
+/// What a `defined` at the front of a list is.
+#[derive(Clone, Copy, Debug)]
+pub enum Asked<'a> {
+    /// None.
+    Other,
+    /// Of a name, with so many tokens behind it.
+    Of(&'a [u8], usize),
+    /// Of no name.
+    Broken,
+}
+
+/// What a `defined` at the front is, with the tokens behind it.
+#[tactic(auto, unfolding(crate::specs::Conditions::asked_at))]
+fn asked_at<'a>(token: &Token, rest: &'a [Token]) -> Asked<'a>
+    ensures asked { asked_of result ≡ asked_at (plain token.now) (plain_tokens rest.now) }
+    ensures within { IsAskedWithin (plain_tokens rest.now) result }
+{
+    if !is_name(token) || !is_text(token, b"defined") {
+        return Asked::Other;
+    }
+    match rest {
+        [open, name, close, ..] if opens(open) => {
+            if is_name(name) && closes(close) {
+                Asked::Of(name.text.as_slice(), 3)
+            } else {
+                Asked::Broken
+            }
+        }
+        [name, ..] if !opens(name) && is_name(name) => Asked::Of(name.text.as_slice(), 1),
+        _ => Asked::Broken,
+    }
+}
+
+/// Adds 1 or 0.
+fn push_answer(alloc: Global, out: &mut Vec<Token>, answer: bool) -> Result<(), AllocError>
+    ensures { OnOk result (plain_tokens out.new.items ≡ plain_tokens out.old.items ++ answer_token answer ∷ []) }
+{
+    let number = if answer {
+        number_token(alloc, b"1")?
+    } else {
+        number_token(alloc, b"0")?
+    };
+    out.push(number)?;
+    Ok(())
+}
+
+/// The list with 1 or 0 for each `defined`, where each has a name.
+fn answered(
+    alloc: Global,
+    macros: &[Macro],
+    list: &[Token],
+) -> Result<Option<Vec<Token>>, AllocError>
+    ensures { IfOk result (λ found. answered_of found ≡ answered_from (plain_macros macros.now) [] 0 (plain_tokens list.now)) }
+{
+    let mut out = Vec::new(alloc);
+    let mut rest = list;
+    while !rest.is_empty() {
+        let token = &rest[0];
+        let tail = rest.split_at(1).1;
+        match asked_at(token, tail) {
+            Asked::Other => {
+                push_copy(alloc, &mut out, token)?;
+                rest = tail;
+            }
+            Asked::Of(name, count) => {
+                push_answer(alloc, &mut out, is_defined(macros, name))?;
+                rest = tail.split_at(count).1;
+            }
+            Asked::Broken => return Ok(None),
+        }
+    }
+    Ok(Some(out))
+}
+
+/// What is read at the front of a list.
+#[derive(Clone, Copy, Debug)]
+pub enum Parsed {
+    /// An expression: its value, and how many tokens it takes.
+    Read(Option<i32>, usize),
+    /// None.
+    Wrong,
+    /// Brackets and signs that nest too deep.
+    TooDeep,
+}
+
+/// The operators before one operand.
+#[derive(Clone, Copy, Debug)]
+pub enum Sign {
+    /// `+`
+    Plus,
+    /// `-`
+    Minus,
+    /// `~`
+    Complement,
+    /// `!`
+    Not,
+}
+
+/// The value behind a sign.
+fn signed(sign: Sign, value: Option<i32>) -> Option<i32>
+    ensures { result ≡ signed sign value }
+{
+    match sign {
+        Sign::Plus => value,
+        Sign::Minus => negated(value),
+        Sign::Complement => complemented(value),
+        Sign::Not => inverted(value),
+    }
+}
+
+/// The sign that a token is.
+fn sign_of(token: &Token) -> Option<Sign>
+    ensures { result ≡ sign_of (plain token.now) }
+{
+    if is_text(token, b"+") {
+        Some(Sign::Plus)
+    } else if is_text(token, b"-") {
+        Some(Sign::Minus)
+    } else if is_text(token, b"~") {
+        Some(Sign::Complement)
+    } else if is_text(token, b"!") {
+        Some(Sign::Not)
+    } else {
+        None
+    }
+}
+
+/// The value of a number or a name that stands alone, and no other token.
+fn primary(token: &Token) -> Parsed
+    ensures parsed { parsed_of result ≡ primary_of token.now.class token.now.text.items }
+    ensures within { IsParsedWithin 1 result }
+{
+    match token.class {
+        Class::Int => Parsed::Read(int_value(token.text.as_slice()), 1),
+        Class::Identifier | Class::Keyword => Parsed::Read(None, 1),
+        _ => Parsed::Wrong,
+    }
+}
+
+/// What is read behind an opening bracket, with the bracket that closes it.
+fn in_brackets(rest: &[Token], inner: Parsed) -> Parsed
+    requires { IsParsedWithin (length rest.now) inner }
+    ensures parsed { parsed_of result ≡ in_brackets (plain_tokens rest.now) (parsed_of inner) }
+    ensures within { IsParsedWithin (length rest.now + 1) result }
+{
+    match inner {
+        Parsed::Read(value, count) => match rest.split_at(count).1 {
+            [first, ..] if closes(first) => Parsed::Read(value, count + 2),
+            _ => Parsed::Wrong,
+        },
+        Parsed::Wrong => Parsed::Wrong,
+        Parsed::TooDeep => Parsed::TooDeep,
+    }
+}
+
+/// What is read behind a sign.
+fn behind_sign(sign: Sign, operand: Parsed, len: usize) -> Parsed
+    requires within { IsParsedWithin len operand }
+    requires small { len < 2 ^ 63 }
+    ensures parsed { parsed_of result ≡ behind_sign (signed sign) (parsed_of operand) }
+    ensures within { IsParsedWithin (len + 1) result }
+{
+    match operand {
+        Parsed::Read(value, count) => Parsed::Read(signed(sign, value), count + 1),
+        Parsed::Wrong => Parsed::Wrong,
+        Parsed::TooDeep => Parsed::TooDeep,
+    }
+}
+
+/// An operand, where brackets and signs nest in at most so many levels.
+#[cycle(expression)]
+fn operand(levels: u32, list: &[Token]) -> Parsed
+    ensures parsed { parsed_of result ≡ operand_within levels (plain_tokens list.now) }
+    ensures within { IsParsedWithin (length list.now) result }
+{
+    if levels == 0 {
+        return Parsed::TooDeep;
+    }
+    let below = levels - 1;
+    if list.is_empty() {
+        return Parsed::Wrong;
+    }
+    let token = &list[0];
+    let rest = list.split_at(1).1;
+    if opens(token) {
+        return in_brackets(rest, expression(below, 10, rest));
+    }
+    match sign_of(token) {
+        Some(sign) => behind_sign(sign, operand(below, rest), rest.len()),
+        None => primary(token),
+    }
+}
+
+/// The operator of a level that a token is.
+fn operator_at(level: u32, token: &Token) -> Option<Operator>
+    ensures { result ≡ at_level level (operator_of token.now.text.items) }
+{
+    match operator_of(token.text.as_slice()) {
+        Some(op) if level_of(op) == level => Some(op),
+        _ => None,
+    }
+}
+
+/// An expression of a level, where brackets and signs nest in at most so many levels.
+#[cycle(expression)]
+fn expression(levels: u32, level: u32, list: &[Token]) -> Parsed
+    requires { level ≤ 10 }
+    ensures parsed { parsed_of result ≡ expression_at (operand_within levels) level (plain_tokens list.now) }
+    ensures within { IsParsedWithin (length list.now) result }
+{
+    if level == 0 {
+        return operand(levels, list);
+    }
+    let (mut value, mut count) = match expression(levels, level - 1, list) {
+        Parsed::Read(value, count) => (value, count),
+        Parsed::Wrong => return Parsed::Wrong,
+        Parsed::TooDeep => return Parsed::TooDeep,
+    };
+    let mut rest = list.split_at(count).1;
+    while !rest.is_empty() {
+        let op = match operator_at(level, &rest[0]) {
+            Some(op) => op,
+            None => return Parsed::Read(value, count),
+        };
+        let tail = rest.split_at(1).1;
+        match expression(levels, level - 1, tail) {
+            Parsed::Read(right, taken) => {
+                value = applied(op, value, right);
+                count += 1 + taken;
+                rest = tail.split_at(taken).1;
+            }
+            Parsed::Wrong => return Parsed::Wrong,
+            Parsed::TooDeep => return Parsed::TooDeep,
+        }
+    }
+    Parsed::Read(value, count)
+}
+
+/// What an `#if` answers.
+#[derive(Clone, Copy, Debug)]
+pub enum Judged {
+    /// Its part is read.
+    Yes,
+    /// Its part is not read.
+    No,
+    /// The directive fails.
+    Fails,
+    /// Memory is wanting, or it nests too deep.
+    Unknown,
+}
+
+/// What a list answers that was read so.
+fn verdict_of(list: &[Token], parsed: Parsed) -> Judged
+    ensures { judged_of result ≡ judged (plain_tokens list.now) (parsed_of parsed) }
+{
+    match parsed {
+        Parsed::Read(Some(value), count) if count == list.len() => {
+            if value == 0 { Judged::No } else { Judged::Yes }
+        }
+        Parsed::TooDeep => Judged::Unknown,
+        _ => Judged::Fails,
+    }
+}
+
+/// What an `#if` with this list answers, where macro calls, brackets and signs nest in at most so many levels.
+#[tactic(auto, unfolding(crate::specs::Conditions::condition))]
+pub fn condition(
+    alloc: Global,
+    macros: &[Macro],
+    levels: u32,
+    work: &mut u32,
+    list: &[Token],
+) -> Judged
+    ensures { IsJudged (condition levels (plain_macros macros.now) (plain_tokens list.now)) result }
+{
+    let Ok(found) = answered(alloc, macros, list) else {
+        return Judged::Unknown;
+    };
+    let Some(resolved) = found else {
+        return Judged::Fails;
+    };
+    let mut hidden = Vec::new(alloc);
+    let mut tokens = Vec::new(alloc);
+    match expand_list(
+        alloc,
+        macros,
+        levels,
+        &mut hidden,
+        work,
+        resolved.as_slice(),
+        &mut tokens,
+        WORK as usize,
+    ) {
+        Ok(()) => verdict_of(tokens.as_slice(), expression(levels, 10, tokens.as_slice())),
+        Err(Pre::Directive(_)) => Judged::Fails,
+        Err(_) => Judged::Unknown,
+    }
+}

@@ -1,0 +1,32 @@
+//! From the tokens of a shader to those that its directives and macros leave (GLSL ES 1.00.17 section 3.4).
+//!
+//! `expand` reads the lines of a shader in order. A line that a `#` begins is a directive; a group that a condition
+//! leaves out is skipped; every other line is text, in which the uses of macros are replaced. The answer is what
+//! `Expansion` says of these tokens, or the line of the first directive or use of a macro that the section refuses.
+#![tactic(auto)]
+
+mod calls;
+mod conditionals;
+mod conditions;
+mod directives;
+mod errors;
+mod kinds;
+mod macro_table;
+mod macros;
+mod numbers;
+mod operators;
+mod reader;
+mod replacement;
+mod run;
+mod tokens;
+mod values;
+
+pub use errors::Pre;
+pub use kinds::Kind;
+pub use operators::Operator;
+pub use run::expand;
+
+#[cfg(test)]
+mod cases;
+#[cfg(test)]
+mod tests;

@@ -1,0 +1,157 @@
+ghost use Rattle.std.specs.Prelude.{◌≡◌, [], ◌∷◌, IfOk, OnOk, ◌++◌};
+ghost use Rattle.std.specs.Option.{option_map};
+ghost use Rattle.std.specs.Str.{bytes_eq};
+ghost use Rattle.glsl_tree.specs.Token.{plain, plain_tokens};
+ghost use Rattle.glsl_preproc.specs.Macros.{find_macro, is_defined, has_double_underscore, begins_with_gl, is_reserved, same_token, same_body, same_names, same_parameters, same_macro, first_macros, constant_macro, number_token};
+ghost use Rattle.glsl_preproc.specs.Views.{plain_macro, plain_macros, texts};
+
+use crate::macros::Macro;
+use crate::tokens::{class_number, number_token};
+use glsl_tree::Token;
+use std::alloc::{AllocError, Global};
+
+/// The macro of a name.
+#[tactic(auto, unfolding(crate::specs::Macros::find_macro))]
+pub fn find_macro<'a>(macros: &'a [Macro], name: &[u8]) -> Option<&'a Macro>
+    ensures { option_map (λ m. plain_macro m.now) result ≡ find_macro (plain_macros macros.now) name.now }
+{
+    for m in macros {
+        if m.name.as_slice() == name {
+            return Some(m);
+        }
+    }
+    None
+}
+
+/// Whether a macro has the name.
+pub fn is_defined(macros: &[Macro], name: &[u8]) -> bool
+    ensures { result ≡ is_defined (plain_macros macros.now) name.now }
+{
+    find_macro(macros, name).is_some()
+}
+
+/// Whether `__` stands in the name.
+#[tactic(auto, unfolding(crate::specs::Macros::has_double_underscore))]
+fn has_double_underscore(name: &[u8]) -> bool
+    ensures { result ≡ has_double_underscore name.now }
+{
+    let mut rest = name;
+    loop {
+        match rest {
+            [b'_', b'_', ..] => return true,
+            [_, tail @ ..] => rest = tail,
+            [] => return false,
+        }
+    }
+}
+
+/// Whether no directive may define or undefine the name.
+#[tactic(auto, unfolding(crate::specs::Macros::begins_with_gl))]
+pub fn is_reserved(name: &[u8]) -> bool
+    ensures { result ≡ is_reserved name.now }
+{
+    has_double_underscore(name) || matches!(name, [b'G', b'L', b'_', ..])
+}
+
+/// Whether two texts are the same.
+pub fn same_text(a: &[u8], b: &[u8]) -> bool
+    ensures { result ≡ bytes_eq a.now b.now }
+{
+    a == b
+}
+
+/// Whether two tokens have the same text and class.
+fn same_token(a: &Token, b: &Token) -> bool
+    ensures { result ≡ same_token (plain a.now) (plain b.now) }
+{
+    a.text.as_slice() == b.text.as_slice() && class_number(a.class) == class_number(b.class)
+}
+
+/// Whether two replacements have the same texts and classes.
+fn same_body(a: &[Token], b: &[Token]) -> bool
+    ensures { result ≡ same_body (plain_tokens a.now) (plain_tokens b.now) }
+{
+    let mut xs = a;
+    let mut ys = b;
+    while !xs.is_empty() {
+        if ys.is_empty() {
+            return false;
+        }
+        if !same_token(&xs[0], &ys[0]) {
+            return false;
+        }
+        xs = xs.split_at(1).1;
+        ys = ys.split_at(1).1;
+    }
+    ys.is_empty()
+}
+
+/// Whether two lists have the same names.
+fn same_names(a: &[Vec<u8>], b: &[Vec<u8>]) -> bool
+    ensures { result ≡ same_names (texts a.now) (texts b.now) }
+{
+    let mut xs = a;
+    let mut ys = b;
+    while !xs.is_empty() {
+        if ys.is_empty() {
+            return false;
+        }
+        if !same_text(xs[0].as_slice(), ys[0].as_slice()) {
+            return false;
+        }
+        xs = xs.split_at(1).1;
+        ys = ys.split_at(1).1;
+    }
+    ys.is_empty()
+}
+
+/// Whether two macros take the same parameters, or both take none.
+fn same_parameters(a: &Option<Vec<Vec<u8>>>, b: &Option<Vec<Vec<u8>>>) -> bool
+    ensures { result ≡ same_parameters (option_map (λ v. texts v.items) a.now) (option_map (λ v. texts v.items) b.now) }
+{
+    match (a, b) {
+        (None, None) => true,
+        (Some(xs), Some(ys)) => same_names(xs.as_slice(), ys.as_slice()),
+        _ => false,
+    }
+}
+
+/// Whether two macros are the same.
+pub fn same_macro(a: &Macro, b: &Macro) -> bool
+    ensures { result ≡ same_macro (plain_macro a.now) (plain_macro b.now) }
+{
+    same_parameters(&a.parameters, &b.parameters) && same_body(a.body.as_slice(), b.body.as_slice())
+}
+
+/// A macro without parameters whose replacement is one number, or nothing.
+fn constant_macro(alloc: Global, name: &[u8], number: &[u8]) -> Result<Macro, AllocError>
+    ensures { IfOk result (λ m. plain_macro m ≡ constant_macro name.now (number_token number.now ∷ [])) }
+{
+    let name = Vec::from_slice(alloc, name)?;
+    let mut body = Vec::new(alloc);
+    body.push(number_token(alloc, number)?)?;
+    Ok(Macro {
+        name,
+        parameters: None,
+        body,
+    })
+}
+
+/// The macros before the first directive.
+#[tactic(auto, unfolding(crate::specs::Macros::first_macros))]
+pub fn first_macros(alloc: Global) -> Result<Vec<Macro>, AllocError>
+    ensures { IfOk result (λ macros. plain_macros macros.items ≡ first_macros) }
+{
+    let mut macros = Vec::new(alloc);
+    let name = Vec::from_slice(alloc, b"__LINE__")?;
+    macros.push(Macro {
+        name,
+        parameters: None,
+        body: Vec::new(alloc),
+    })?;
+    macros.push(constant_macro(alloc, b"__FILE__", b"0")?)?;
+    macros.push(constant_macro(alloc, b"__VERSION__", b"100")?)?;
+    macros.push(constant_macro(alloc, b"GL_ES", b"1")?)?;
+    macros.push(constant_macro(alloc, b"GL_FRAGMENT_PRECISION_HIGH", b"1")?)?;
+    Ok(macros)
+}

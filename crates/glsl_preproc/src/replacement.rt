@@ -1,0 +1,356 @@
+ghost use Rattle.std.specs.Prelude.{ℕ, ◌≡◌, ◌≤◌, ◌<◌, ◌+◌, ◌-◌, [], ◌∷◌, ◌++◌, IfOk, IfErr, OnOk, length};
+ghost use Rattle.std.specs.Option.{option_map};
+ghost use Rattle.glsl_tree.specs.Token.{plain, plain_tokens};
+ghost use Rattle.glsl_preproc.specs.Replacement.{argument_of, argument_or, substituted, expanded, expanded_arguments, at_line, call_outcome};
+ghost use Rattle.glsl_preproc.specs.Views.{plain_macro, plain_macros, texts, lists, parameters_of, Expands, ExpandsArguments, argument_error};
+
+use crate::calls::{Arguments, Use, use_of};
+use crate::errors::Pre;
+use crate::macro_table::same_text;
+use crate::macros::Macro;
+use crate::tokens::{append_at_line, copy_at, copy_of, line_number, push_list, push_name};
+use glsl_tree::Token;
+use std::alloc::{AllocError, Global};
+
+/// The most tokens that one expansion handles, 16,777,216.
+pub const WORK: u32 = 16_777_216;
+
+/// Takes one token from the work that is left.
+fn spend(work: &mut u32) -> Result<(), Pre> {
+    if *work == 0 {
+        return Err(Pre::Memory);
+    }
+    *work -= 1;
+    Ok(())
+}
+
+/// The argument for a name, among those of the parameters.
+fn argument_of<'a>(
+    parameters: &[Vec<u8>],
+    arguments: &'a [Vec<Token>],
+    name: &[u8],
+) -> Option<&'a Vec<Token>>
+    ensures { option_map (λ v. plain_tokens v.now.items) result ≡ argument_of (texts parameters.now) (lists arguments.now) name.now }
+{
+    let mut names = parameters;
+    let mut rest = arguments;
+    while !names.is_empty() {
+        if rest.is_empty() {
+            return None;
+        }
+        if same_text(names[0].as_slice(), name) {
+            return Some(&rest[0]);
+        }
+        names = names.split_at(1).1;
+        rest = rest.split_at(1).1;
+    }
+    None
+}
+
+/// Adds the tokens of an argument, or the token where it is none of a parameter's name.
+fn append_argument(
+    alloc: Global,
+    out: &mut Vec<Token>,
+    argument: Option<&Vec<Token>>,
+    token: &Token,
+    line: u32,
+) -> Result<(), AllocError>
+    ensures { OnOk result (plain_tokens out.new.items ≡ plain_tokens out.old.items ++ at_line line (argument_or (option_map (λ v. plain_tokens v.now.items) argument.entry) (plain token.now))) }
+{
+    match argument {
+        Some(tokens) => append_at_line(alloc, out, tokens.as_slice(), line),
+        None => {
+            out.push(copy_at(alloc, token, line)?)?;
+            Ok(())
+        }
+    }
+}
+
+/// A replacement with the arguments in the places of the parameters.
+fn substituted(
+    alloc: Global,
+    parameters: &[Vec<u8>],
+    arguments: &[Vec<Token>],
+    line: u32,
+    body: &[Token],
+) -> Result<Vec<Token>, AllocError>
+    ensures { IfOk result (λ tokens. plain_tokens tokens.items ≡ substituted (texts parameters.now) (lists arguments.now) line (plain_tokens body.now)) }
+{
+    let mut out = Vec::new(alloc);
+    let mut rest = body;
+    while !rest.is_empty() {
+        let token = &rest[0];
+        append_argument(
+            alloc,
+            &mut out,
+            argument_of(parameters, arguments, token.text.as_slice()),
+            token,
+            line,
+        )?;
+        rest = rest.split_at(1).1;
+    }
+    Ok(out)
+}
+
+/// Adds a token, where there is room for it.
+fn push_within(out: &mut Vec<Token>, limit: usize, token: Token) -> Result<(), Pre>
+    ensures ok { OnOk result (plain_tokens out.new.items ≡ plain_tokens out.old.items ++ plain token ∷ []) }
+    ensures full { IfErr result (λ e. e ≡ Pre.TooLong → limit ≤ length out.old.items) }
+    ensures never { IfErr result (λ e. (line : ℕ) → e ≡ Pre.Directive line → ⊥) }
+    ensures within { length out.old.items ≤ limit → length out.new.items ≤ limit }
+{
+    if out.len() >= limit {
+        return Err(Pre::TooLong);
+    }
+    let Ok(()) = out.push(token) else {
+        return Err(Pre::Memory);
+    };
+    Ok(())
+}
+
+/// Expands a list behind the tokens before it, where calls and replacements nest in at most so many levels and some
+/// names are hidden. A call that fails ends it, behind the tokens that stand before it.
+#[cycle(replacement)]
+pub fn expand_list(
+    alloc: Global,
+    macros: &[Macro],
+    levels: u32,
+    hidden: &mut Vec<Vec<u8>>,
+    work: &mut u32,
+    list: &[Token],
+    out: &mut Vec<Token>,
+    limit: usize,
+) -> Result<(), Pre>
+    requires { length out.old.items ≤ limit }
+    ensures outcome { Expands limit (expanded levels (plain_macros macros.now) (texts hidden.old.items) (plain_tokens out.old.items) (plain_tokens list.now)) (plain_tokens out.new.items) result }
+    ensures hidden { OnOk result (texts hidden.new.items ≡ texts hidden.old.items) }
+    ensures within { length out.new.items ≤ limit }
+{
+    if levels == 0 {
+        return Err(Pre::Memory);
+    }
+    let below = levels - 1;
+    let mut rest = list;
+    while !rest.is_empty() {
+        let Ok(()) = spend(work) else {
+            return Err(Pre::Memory);
+        };
+        let token = &rest[0];
+        let tail = rest.split_at(1).1;
+        let Ok(found) = use_of(alloc, macros, hidden.as_slice(), token, tail) else {
+            return Err(Pre::Memory);
+        };
+        match found {
+            Use::Kept => {
+                let Ok(copy) = copy_of(alloc, token) else {
+                    return Err(Pre::Memory);
+                };
+                match push_within(out, limit, copy) {
+                    Ok(()) => rest = tail,
+                    Err(e) => return Err(e),
+                }
+            }
+            Use::LineNumber => {
+                let Ok(number) = line_number(alloc, token) else {
+                    return Err(Pre::Memory);
+                };
+                match push_within(out, limit, number) {
+                    Ok(()) => rest = tail,
+                    Err(e) => return Err(e),
+                }
+            }
+            Use::WrongCount => return Err(Pre::Directive(token.line)),
+            Use::Object(m) => {
+                match expand_object(alloc, macros, below, hidden, work, token, m, out, limit) {
+                    Ok(()) => rest = tail,
+                    Err(e) => return Err(e),
+                }
+            }
+            Use::Call(m, arguments) => {
+                match expand_call(
+                    alloc, macros, below, hidden, work, token, m, &arguments, out, limit,
+                ) {
+                    Ok(()) => rest = tail.split_at(arguments.count).1,
+                    Err(e) => return Err(e),
+                }
+            }
+        }
+    }
+    Ok(())
+}
+
+/// Expands the replacement of a name, which is hidden in it.
+#[cycle(replacement)]
+fn rescan(
+    alloc: Global,
+    macros: &[Macro],
+    levels: u32,
+    hidden: &mut Vec<Vec<u8>>,
+    work: &mut u32,
+    name: &[u8],
+    list: &[Token],
+    out: &mut Vec<Token>,
+    limit: usize,
+) -> Result<(), Pre>
+    requires { length out.old.items ≤ limit }
+    ensures outcome { Expands limit (expanded levels (plain_macros macros.now) (texts hidden.old.items ++ name.now ∷ []) (plain_tokens out.old.items) (plain_tokens list.now)) (plain_tokens out.new.items) result }
+    ensures hidden { OnOk result (texts hidden.new.items ≡ texts hidden.old.items) }
+    ensures within { length out.new.items ≤ limit }
+{
+    let Ok(()) = push_name(alloc, hidden, name) else {
+        return Err(Pre::Memory);
+    };
+    match expand_list(alloc, macros, levels, hidden, work, list, out, limit) {
+        Ok(()) => {
+            let _name = hidden.pop();
+            Ok(())
+        }
+        Err(e) => Err(e),
+    }
+}
+
+/// Expands the name of a macro without parameters.
+#[cycle(replacement)]
+fn expand_object(
+    alloc: Global,
+    macros: &[Macro],
+    levels: u32,
+    hidden: &mut Vec<Vec<u8>>,
+    work: &mut u32,
+    name: &Token,
+    m: &Macro,
+    out: &mut Vec<Token>,
+    limit: usize,
+) -> Result<(), Pre>
+    requires { length out.old.items ≤ limit }
+    ensures outcome { Expands limit (expanded levels (plain_macros macros.now) (texts hidden.old.items ++ name.now.text.items ∷ []) (plain_tokens out.old.items) (at_line name.now.line (plain_tokens m.now.body.items))) (plain_tokens out.new.items) result }
+    ensures hidden { OnOk result (texts hidden.new.items ≡ texts hidden.old.items) }
+    ensures within { length out.new.items ≤ limit }
+{
+    let mut list = Vec::new(alloc);
+    let Ok(()) = append_at_line(alloc, &mut list, m.body.as_slice(), name.line) else {
+        return Err(Pre::Memory);
+    };
+    rescan(
+        alloc,
+        macros,
+        levels,
+        hidden,
+        work,
+        name.text.as_slice(),
+        list.as_slice(),
+        out,
+        limit,
+    )
+}
+
+/// What an argument's expansion answers of the call: an argument may have any number of tokens.
+fn argument_error(e: Pre) -> Pre
+    ensures { result ≡ argument_error e }
+{
+    match e {
+        Pre::Directive(line) => Pre::Directive(line),
+        _ => Pre::Memory,
+    }
+}
+
+/// Expands each argument as a list of its own.
+#[cycle(replacement)]
+fn expand_arguments(
+    alloc: Global,
+    macros: &[Macro],
+    levels: u32,
+    hidden: &mut Vec<Vec<u8>>,
+    work: &mut u32,
+    arguments: &[Vec<Token>],
+) -> Result<Vec<Vec<Token>>, Pre>
+    ensures outcome { ExpandsArguments (expanded_arguments (expanded levels (plain_macros macros.now) (texts hidden.old.items) []) [] (lists arguments.now)) result }
+    ensures hidden { OnOk result (texts hidden.new.items ≡ texts hidden.old.items) }
+{
+    let mut done = Vec::new(alloc);
+    let mut rest = arguments;
+    while !rest.is_empty() {
+        let mut tokens = Vec::new(alloc);
+        match expand_list(
+            alloc,
+            macros,
+            levels,
+            hidden,
+            work,
+            rest[0].as_slice(),
+            &mut tokens,
+            WORK as usize,
+        ) {
+            Ok(()) => {}
+            Err(e) => return Err(argument_error(e)),
+        }
+        let Ok(()) = push_list(&mut done, tokens) else {
+            return Err(Pre::Memory);
+        };
+        rest = rest.split_at(1).1;
+    }
+    Ok(done)
+}
+
+/// Expands a call: its arguments first, and then the replacement with these in it.
+#[cycle(replacement)]
+fn expand_call(
+    alloc: Global,
+    macros: &[Macro],
+    levels: u32,
+    hidden: &mut Vec<Vec<u8>>,
+    work: &mut u32,
+    name: &Token,
+    m: &Macro,
+    arguments: &Arguments,
+    out: &mut Vec<Token>,
+    limit: usize,
+) -> Result<(), Pre>
+    requires { length out.old.items ≤ limit }
+    ensures outcome { Expands limit (call_outcome (expanded levels (plain_macros macros.now)) (texts hidden.old.items) (plain_tokens out.old.items) (plain name.now) (plain_macro m.now) (parameters_of m.now.parameters) (lists arguments.now.lists.items)) (plain_tokens out.new.items) result }
+    ensures hidden { OnOk result (texts hidden.new.items ≡ texts hidden.old.items) }
+    ensures within { length out.new.items ≤ limit }
+{
+    let lists = match expand_arguments(
+        alloc,
+        macros,
+        levels,
+        hidden,
+        work,
+        arguments.lists.as_slice(),
+    ) {
+        Ok(lists) => lists,
+        Err(e) => return Err(e),
+    };
+    let parameters = parameters_of(m);
+    let Ok(list) = substituted(
+        alloc,
+        parameters,
+        lists.as_slice(),
+        name.line,
+        m.body.as_slice(),
+    ) else {
+        return Err(Pre::Memory);
+    };
+    rescan(
+        alloc,
+        macros,
+        levels,
+        hidden,
+        work,
+        name.text.as_slice(),
+        list.as_slice(),
+        out,
+        limit,
+    )
+}
+
+/// The parameters of a macro, none where it takes no list of them.
+fn parameters_of(m: &Macro) -> &[Vec<u8>]
+    ensures { texts result.now ≡ parameters_of m.now.parameters }
+{
+    match &m.parameters {
+        Some(parameters) => parameters.as_slice(),
+        None => &[],
+    }
+}
