@@ -10,6 +10,7 @@ mod record_buf;
 mod replies;
 #[cfg(test)]
 mod tests;
+mod writing;
 
 pub use calls::{Call, Fill, New};
 pub use operations::{
@@ -21,3 +22,4 @@ pub use reading::{
 };
 pub use record_buf::RecordBuf;
 pub use replies::{Reply, Value, write_reply};
+pub use writing::write_call;

@@ -1,5 +1,6 @@
 use crate::{
-    Call, Fill, New, ReadEnd, RecordBuf, Reply, Step, Value, read_call, read_start, write_reply,
+    Call, Fill, New, ReadEnd, RecordBuf, Reply, Step, Value, read_call, read_start, write_call,
+    write_reply,
 };
 use gl_numbers::{Name, Words};
 use std::alloc::AllocError;
@@ -165,5 +166,30 @@ fn each_kind_of_reply_is_written(rt: HostRuntime) -> Result<(), Fail> {
         assert_eq!(rt; full.bytes().len(), 7);
         assert!(rt; bytes.starts_with(full.bytes()), "{value:?}");
     }
+    Ok(())
+}
+
+#[test]
+fn each_kind_of_call_is_written(rt: HostRuntime) -> Result<(), Fail> {
+    let tail = [0xAA, 0xBB];
+    let data = Call::BufferData(0x8892, 0x88E4, Fill::Bytes(&tail));
+    let cases: [(Call, &[u8]); 4] = [
+        (Call::Create(New::Buffer), &SESSION[8..16]),
+        (Call::BindBuffer(0x8892, 1), &SESSION[16..32]),
+        (data, &SESSION[32..50]),
+        (Call::GetError, &SESSION[50..58]),
+    ];
+    for (call, bytes) in cases {
+        let mut out = MemSink::new(vec![in rt.alloc(); 0; 64]?, Vec::new(rt.alloc()));
+        assert_eq!(rt; write_call(&call, &mut out).is_ok(), true);
+        assert!(rt; out.bytes() == bytes, "{call:?}");
+        let mut full = MemSink::new(vec![in rt.alloc(); 0; 7]?, Vec::new(rt.alloc()));
+        assert_eq!(rt; write_call(&call, &mut full).is_err(), true);
+        assert!(rt; full.bytes() == &bytes[..7], "{call:?}");
+    }
+    let fail = [1u64];
+    let mut out = MemSink::new(vec![in rt.alloc(); 0; 64]?, fail.to_vec(rt.alloc())?);
+    assert_eq!(rt; write_call(&data, &mut out).is_err(), true);
+    assert!(rt; out.bytes() == &SESSION[32..48]);
     Ok(())
 }
