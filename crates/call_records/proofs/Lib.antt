@@ -2,3 +2,4 @@ pub mod Lengths
 pub mod Refusals
 pub mod Sending
 pub mod OneSpelling
+pub mod ReplyFronts

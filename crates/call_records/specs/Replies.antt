@@ -1,6 +1,6 @@
 -- Replies as bytes (this project's own format).
-use Rattle.std.specs.Prelude.{ℕ, List, [], ◌++◌, length}
-use Rattle.std.specs.List.{flat_map}
+use Rattle.std.specs.Prelude.{ℕ, ◌<◌, ◌≤◌, ◌^◌, List, [], ◌++◌, length}
+use Rattle.std.specs.List.{flat_map, All}
 use Rattle.gl_numbers.specs.Bytes.{le32}
 use Rattle.call_records.specs.declared.replies.TheConstants.{TAG_NOTHING, TAG_NUMBER, TAG_LIST, TAG_TEXT, TAG_ACTIVE}
 use Rattle.call_records.specs.declared.replies.Value as Values
@@ -27,3 +27,15 @@ content_of (Active size kind name) = le32 size ++ (le32 kind ++ (le32 (length na
 -- the code raised, the tag, and the content
 abbrev pub reply_spelling : Reply → List ℕ
 reply_spelling reply = le32 reply.raised ++ (le32 (tag_of reply.value) ++ content_of reply.value)
+
+-- the value is one that a reply can hold: its numbers are words, a list has at most 16 of them, a name at most 256 bytes
+abbrev pub IsValue : Values.Value → Type 0
+IsValue Nothing = Unit {0}
+IsValue (Number n) = n < 2 ^ 32
+IsValue (Value.List words) = (length words ≤ 16) × All (λ word. word < 2 ^ 32) words
+IsValue (Text name) = length name ≤ 256
+IsValue (Active size kind name) = (size < 2 ^ 32) × (kind < 2 ^ 32) × (length name ≤ 256)
+
+-- the code raised is a word, and the value is one that a reply can hold
+abbrev pub IsReply : Reply → Type 0
+IsReply reply = (reply.raised < 2 ^ 32) × IsValue reply.value

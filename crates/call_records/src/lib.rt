@@ -8,8 +8,10 @@ mod operations;
 mod reading;
 mod record_buf;
 mod replies;
+mod reply_reading;
 #[cfg(test)]
 mod tests;
+mod writing;
 
 pub use calls::{Call, Fill, New};
 pub use operations::{
@@ -21,3 +23,5 @@ pub use reading::{
 };
 pub use record_buf::RecordBuf;
 pub use replies::{Reply, Value, write_reply};
+pub use reply_reading::read_reply;
+pub use writing::write_call;

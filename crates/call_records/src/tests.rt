@@ -1,5 +1,6 @@
 use crate::{
-    Call, Fill, New, ReadEnd, RecordBuf, Reply, Step, Value, read_call, read_start, write_reply,
+    Call, Fill, New, ReadEnd, RecordBuf, Reply, Step, Value, read_call, read_reply, read_start,
+    write_call, write_reply,
 };
 use gl_numbers::{Name, Words};
 use std::alloc::AllocError;
@@ -165,5 +166,83 @@ fn each_kind_of_reply_is_written(rt: HostRuntime) -> Result<(), Fail> {
         assert_eq!(rt; full.bytes().len(), 7);
         assert!(rt; bytes.starts_with(full.bytes()), "{value:?}");
     }
+    Ok(())
+}
+
+#[test]
+fn each_kind_of_call_is_written(rt: HostRuntime) -> Result<(), Fail> {
+    let tail = [0xAA, 0xBB];
+    let data = Call::BufferData(0x8892, 0x88E4, Fill::Bytes(&tail));
+    let cases: [(Call, &[u8]); 4] = [
+        (Call::Create(New::Buffer), &SESSION[8..16]),
+        (Call::BindBuffer(0x8892, 1), &SESSION[16..32]),
+        (data, &SESSION[32..50]),
+        (Call::GetError, &SESSION[50..58]),
+    ];
+    for (call, bytes) in cases {
+        let mut out = MemSink::new(vec![in rt.alloc(); 0; 64]?, Vec::new(rt.alloc()));
+        assert_eq!(rt; write_call(&call, &mut out).is_ok(), true);
+        assert!(rt; out.bytes() == bytes, "{call:?}");
+        let mut full = MemSink::new(vec![in rt.alloc(); 0; 7]?, Vec::new(rt.alloc()));
+        assert_eq!(rt; write_call(&call, &mut full).is_err(), true);
+        assert!(rt; full.bytes() == &bytes[..7], "{call:?}");
+    }
+    let fail = [1u64];
+    let mut out = MemSink::new(vec![in rt.alloc(); 0; 64]?, fail.to_vec(rt.alloc())?);
+    assert_eq!(rt; write_call(&data, &mut out).is_err(), true);
+    assert!(rt; out.bytes() == &SESSION[32..48]);
+    Ok(())
+}
+
+#[test]
+fn each_kind_of_reply_is_read(rt: HostRuntime) -> Result<(), Fail> {
+    let words = Words::new(&[1, 300]).ok_or("words")?;
+    let name = Name::new(b"ab").ok_or("name")?;
+    let active = Value::Active {
+        size: 3,
+        kind: 0x8B51,
+        name,
+    };
+    let cases: [(u32, Value, &[u8]); 5] = [
+        (0x0502, Value::Nothing, &[2, 5, 0, 0, 0, 0, 0, 0]),
+        (0, Value::Number(7), &[0, 0, 0, 0, 1, 0, 0, 0, 7, 0, 0, 0]),
+        (
+            0,
+            Value::List(words),
+            &[0, 0, 0, 0, 2, 0, 0, 0, 2, 0, 0, 0, 1, 0, 0, 0, 44, 1, 0, 0],
+        ),
+        (
+            0,
+            Value::Text(name),
+            &[0, 0, 0, 0, 3, 0, 0, 0, 2, 0, 0, 0, 97, 98],
+        ),
+        (
+            0,
+            active,
+            &[
+                0, 0, 0, 0, 4, 0, 0, 0, 3, 0, 0, 0, 0x51, 0x8B, 0, 0, 2, 0, 0, 0, 97, 98,
+            ],
+        ),
+    ];
+    for (raised, value, bytes) in cases {
+        let mut more = bytes.to_vec(rt.alloc())?;
+        more.push(9)?;
+        let read = read_reply(&more);
+        assert!(rt; read == Some((Reply { raised, value }, bytes.len())), "{value:?}");
+        for cut in 0..bytes.len() {
+            assert!(rt; read_reply(&bytes[..cut]).is_none(), "{value:?} cut at {cut}");
+        }
+    }
+    let mut long = [0u8; 300];
+    for (tag, at, most) in [(2, 8, 16), (3, 8, 256), (4, 16, 256)] {
+        long[4] = tag;
+        long[8..10].copy_from_slice(&[0, 0]);
+        for (count, is_some) in [(most, true), (most + 1, false)] {
+            let word = u16::to_le_bytes(count);
+            long[at..at + 2].copy_from_slice(&word);
+            assert_eq!(rt; read_reply(&long).is_some(), is_some, "tag {tag}, {count}");
+        }
+    }
+    assert!(rt; read_reply(&[0, 0, 0, 0, 5, 0, 0, 0, 0, 0, 0, 0]).is_none());
     Ok(())
 }
