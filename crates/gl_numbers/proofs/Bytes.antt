@@ -1,5 +1,5 @@
 -- Words at the front of a list are read in one way.
-use Rattle.std.proofs.Common.{◌≡◌, ℕ, ◌+◌, ◌<◌, ◌^◌, List, [], ◌∷◌, ◌++◌, length, take, drop, refl, sym, ap, ◌∙◌}
+use Rattle.std.proofs.Common.{◌≡◌, ℕ, ◌<◌, ◌^◌, List, ◌++◌, length, take, drop, refl, sym, ap, ◌∙◌}
 use Rattle.std.proofs.lemmas.Nat.{from_le_bytes-to_le_bytes_4}
 use Rattle.std.specs.Int.{from_le_bytes, to_le_bytes, w32}
 use Rattle.gl_numbers.specs.Bytes.{le32}
@@ -20,7 +20,7 @@ le32-one a b x y fits_a fits_b e =
     let words : to_le_bytes w32 a ≡ to_le_bytes w32 b = ap (take 4) e in
     record {
       word = sym (from_le_bytes-to_le_bytes_4 a fits_a) ∙ ap (from_le_bytes w32) words ∙ from_le_bytes-to_le_bytes_4 b fits_b;
-      rest = ap (drop 4) e
+      rest = ap (drop 4) e;
     }
 
 pub drop-le32 : (n : ℕ) (x : List ℕ) → drop 4 (le32 n ++ x) ≡ x

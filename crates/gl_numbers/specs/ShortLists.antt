@@ -31,5 +31,5 @@ IsPadded-front capacity xs ys same within =
     (record {
       whole = simp (length-append, length-drop, length-replicate) (omega arith);
       within = within;
-      rest = drop-append_seam xs (drop (length xs) zeros) ∙ drop-replicate (length xs) capacity 0
+      rest = drop-append_seam xs (drop (length xs) zeros) ∙ drop-replicate (length xs) capacity 0;
     })

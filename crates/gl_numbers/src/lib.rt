@@ -3,9 +3,9 @@
 //! memory. Each `from_u32` answers exactly the words of its table; `Name` and `Words` are seen as lists.
 #![tactic(auto)]
 
+mod buffer_words;
 mod errors;
 mod kinds;
-mod buffer_words;
 mod short_lists;
 mod words_in_bytes;
 
@@ -13,9 +13,12 @@ pub use buffer_words::{
     ARRAY_BUFFER, BufferTarget, DYNAMIC_DRAW, ELEMENT_ARRAY_BUFFER, STATIC_DRAW, STREAM_DRAW, Usage,
 };
 pub use errors::{
-    GlError, INVALID_ENUM, INVALID_FRAMEBUFFER_OPERATION, INVALID_OPERATION, INVALID_VALUE, Memory, NO_ERROR,
-    OUT_OF_MEMORY,
+    GlError, INVALID_ENUM, INVALID_FRAMEBUFFER_OPERATION, INVALID_OPERATION, INVALID_VALUE, Memory,
+    NO_ERROR, OUT_OF_MEMORY,
 };
 pub use kinds::{Handle, Kind, Stage};
 pub use short_lists::{NAME_BYTES, Name, WORDS, Words};
 pub use words_in_bytes::{three_words, two_words, u32_at, word_bytes};
+
+#[cfg(test)]
+mod tests;

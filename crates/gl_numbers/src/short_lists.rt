@@ -1,4 +1,5 @@
 ghost use Rattle.std.specs.Prelude.{◌≡◌, ℕ, ◌-◌, ◌<◌, ◌≤◌, ◌↔◌, ◌++◌, List, length, take, drop, replicate, IsSome, IfSome};
+
 use std::marker::Model;
 
 /// The most bytes that a `Name` holds.
@@ -48,9 +49,10 @@ impl Name {
         })
     }
 
-    /// The bytes of the name.
+    /// The bytes of the name, at most 256.
     pub fn as_slice(&self) -> &[u8]
-        ensures { result.now ≡ self.now }
+        ensures value { result.now ≡ self.now }
+        ensures within { length result.now ≤ 256 }
     {
         &self.bytes[..self.len]
     }
@@ -98,9 +100,10 @@ impl Words {
         })
     }
 
-    /// The words of the list.
+    /// The words of the list, at most 16.
     pub fn as_slice(&self) -> &[u32]
-        ensures { result.now ≡ self.now }
+        ensures value { result.now ≡ self.now }
+        ensures within { length result.now ≤ 16 }
     {
         &self.words[..self.len]
     }

@@ -1,5 +1,5 @@
 -- Lists taken apart at a front.
-use Rattle.std.proofs.Common.{◌≡◌, ℕ, ◌+◌, ◌-◌, ◌<◌, ◌≤◌, List, [], ◌++◌, min, length, take, drop, arith, sym, ap, length-drop}
+use Rattle.std.proofs.Common.{◌≡◌, ℕ, ◌+◌, ◌-◌, ◌<◌, List, [], ◌++◌, min, length, take, drop, arith, sym, ap, length-drop}
 use Rattle.std.proofs.lemmas.List.{take_all, take-append-drop, drop-drop, drop_all}
 
 -- the part of a list from an index to its end

@@ -1,5 +1,5 @@
 -- When a fault is answered: an object counts its faults in a number that never falls.
-use Rattle.std.specs.Prelude.{ℕ, ◌+◌, ◌-◌, ◌^◌, ◌≤◌, min, Result, OnErr}
+use Rattle.std.specs.Prelude.{◌≡◌, ℕ, ◌+◌, ◌-◌, ◌^◌, ◌≤◌, min, Result, Ok, Err, OnErr}
 
 -- the number rose, or stands at its last value
 abbrev pub Rose : ℕ → ℕ → Type 0
@@ -9,3 +9,8 @@ Rose before now = min (before + 1) (2 ^ 64 - 1) ≤ now
 pub record HasCause {T E : Type 0} (before now : ℕ) (result : Result T E) : Type 0 where
   pub later : before ≤ now
   pub failed : OnErr result (Rose before now)
+
+-- an error is counted once, and nothing else is
+abbrev pub CountsErrors : {T E : Type 0} → ℕ → ℕ → Result T E → Type 0
+CountsErrors before now (Ok x) = now ≡ before
+CountsErrors before now (Err e) = now ≡ min (before + 1) (2 ^ 64 - 1)

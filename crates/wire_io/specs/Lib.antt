@@ -2,3 +2,4 @@ pub mod Faults
 pub mod Sources
 pub mod Sinks
 pub mod Memory
+pub mod Buffers

@@ -4,12 +4,21 @@
 //! faults rose.
 #![tactic(auto)]
 
+mod buffer;
+mod copies;
+mod lazy_file;
 mod memory;
 mod sink;
 mod source;
+mod standard;
 mod status;
 
+pub use lazy_file::LazyFile;
 pub use memory::{MemSink, MemSource};
 pub use sink::{Sink, write_all};
 pub use source::{Source, read_full};
+pub use standard::{StdSink, StdSource};
 pub use status::{Failed, Status};
+
+#[cfg(test)]
+mod tests;

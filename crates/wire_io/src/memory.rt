@@ -1,36 +1,14 @@
-ghost use Rattle.std.specs.Prelude.{◌≡◌, ℕ, ◌+◌, ◌-◌, ◌^◌, ◌<◌, ◌≤◌, ◌↔◌, ◌⊎◌, [], ◌++◌, List, Option, Some, min, length, take, drop, vec_len, Contains, IsTrue, IsErr, IfOk, OnOk, is_err, if◌then◌else◌};
+ghost use Rattle.std.specs.Prelude.{◌≡◌, ℕ, ◌+◌, ◌-◌, ◌^◌, ◌<◌, ◌≤◌, ◌↔◌, ◌⊎◌, [], List, Option, Some, min, drop, length, vec_len, Contains, IsTrue, IsErr, IfOk, OnOk, OnErr, is_err, if◌then◌else◌};
 ghost use Rattle.wire_io.specs.Faults.{HasCause};
 ghost use Rattle.wire_io.specs.Sources.{Reads};
 ghost use Rattle.wire_io.specs.Sinks.{Writes};
 ghost use Rattle.wire_io.specs.Memory.{SourceState, SinkState};
 
-use std::marker::Model;
-
+use crate::copies::{copy_front, copy_rest};
 use crate::sink::Sink;
 use crate::source::Source;
 use crate::status::Failed;
-
-/// Copies as many bytes as fit from the front of `from` to the front of `into`, and answers how many.
-fn copy_front(from: &[u8], into: &mut [u8]) -> usize
-    ensures fits { result ≡ min (length from.now) (length into.old) }
-    ensures content { into.new ≡ take result from.now ++ drop result into.old }
-    ensures front { take result into.new ≡ take result from.now }
-{
-    let n = from.len().min(into.len());
-    into[..n].copy_from_slice(&from[..n]);
-    n
-}
-
-/// Copies as many bytes as fit from those past the first `next`, and answers how many.
-#[tactic(auto, using(crate::proofs::Fronts::took_front, crate::proofs::Fronts::nothing_left))]
-fn copy_rest(bytes: &[u8], next: usize, into: &mut [u8]) -> usize
-    requires { next ≤ length bytes.now }
-    ensures fits { result ≡ min (length bytes.now - next) (length into.old) }
-    ensures taken { drop next bytes.now ≡ take result into.new ++ drop (next + result) bytes.now }
-    ensures end { result ≡ 0 → 0 < length into.new → drop (next + result) bytes.now ≡ [] }
-{
-    copy_front(&bytes[next..], into)
-}
+use std::marker::Model;
 
 /// A source over bytes in memory that fails exactly at the listed calls of `read`, counted from 0.
 #[derive(Debug, Drop)]
@@ -79,6 +57,8 @@ impl Source for MemSource {
         ensures cause { HasCause self.old.faults self.new.faults result }
         ensures listed { IsErr result ↔ Contains self.old.fail self.old.calls }
         ensures most { IfOk result (λ n. n ≡ min (length self.old.left) (length into.old)) }
+        ensures behind { IfOk result (λ n. drop n into.new ≡ drop n into.old) }
+        ensures untouched { OnErr result (into.new ≡ into.old) }
         ensures stays { self.new.fail ≡ self.old.fail }
         ensures called { self.new.calls ≡ min (self.old.calls + 1) (2 ^ 64 - 1) }
         ensures counted { self.new.faults ≡ (if is_err result then min (self.old.faults + 1) (2 ^ 64 - 1) else self.old.faults) }

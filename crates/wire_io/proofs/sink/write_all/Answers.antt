@@ -8,5 +8,5 @@ pub loop-sent-preserved : goal.loop-sent-preserved
 loop-sent-preserved g c = record {
   within = grind (arith, common_steps);
   bytes = sent_more _ _ _ _ _ _ c.loop-sent.invariant.bytes c.in-Ok.ensures.bytes.1;
-  later = grind (arith, common_steps)
+  later = grind (arith, common_steps);
 }

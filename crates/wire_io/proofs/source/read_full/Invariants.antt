@@ -7,7 +7,7 @@ abbrev pub invariant-loop-filled : goal.invariant-loop-filled
 invariant-loop-filled g l = record {
   within : l.filled ≤ length l.into;
   bytes : g.S.Source.left l.fn.input ≡ prepend_known (take l.filled l.into) (g.S.Source.left l.input);
-  later : g.S.Source.faults l.fn.input ≤ g.S.Source.faults l.input
+  later : g.S.Source.faults l.fn.input ≤ g.S.Source.faults l.input;
 }
 
 abbrev pub decreases-loop-filled : goal.decreases-loop-filled

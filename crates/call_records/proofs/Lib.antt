@@ -1,0 +1,4 @@
+pub mod Lengths
+pub mod Refusals
+pub mod Sending
+pub mod OneSpelling

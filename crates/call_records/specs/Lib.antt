@@ -1,0 +1,5 @@
+pub mod Operations
+pub mod Records
+pub mod Replies
+pub mod Reading
+pub mod Parts

@@ -1,0 +1,66 @@
+-- Calls as records: how each call is spelled, and how a session of them is (this project's own format).
+use Rattle.std.specs.Prelude.{ℕ, ◌<◌, ◌≤◌, ◌^◌, List, [], ◌++◌, length, codes}
+use Rattle.std.specs.List.{flat_map}
+use Rattle.gl_numbers.specs.Bytes.{le32}
+use Rattle.call_records.specs.declared.operations.TheConstants.{CLOSE, BODY_MAX}
+use Rattle.call_records.specs.declared.reading.TheConstants.{SESSION_VERSION}
+use Rattle.call_records.specs.declared.operations.Operation.{Operation}
+use Rattle.call_records.specs.declared.operations.Operation.TheVariants as Op
+use Rattle.call_records.specs.declared.calls.New.TheVariants.{Buffer}
+use Rattle.call_records.specs.declared.calls.Fill.TheVariants.{Bytes}
+use Rattle.call_records.specs.declared.calls.Call.{Call}
+use Rattle.call_records.specs.declared.calls.Call.TheVariants.{Create, BindBuffer, BufferData, GetError}
+use Rattle.call_records.specs.Operations.{number_of}
+
+-- the operation of a call
+abbrev pub operation_of : Call → Operation
+operation_of (Create Buffer) = Op.CreateBuffer
+operation_of (BindBuffer target handle) = Op.BindBuffer
+operation_of (BufferData target usage (Bytes tail)) = Op.BufferData
+operation_of GetError = Op.GetError
+
+-- the operation's number
+abbrev pub op_of : Call → ℕ
+op_of call = number_of (operation_of call)
+
+-- the fields in order, and then the tail
+abbrev pub body_of : Call → List ℕ
+body_of (Create Buffer) = []
+body_of (BindBuffer target handle) = le32 target ++ le32 handle
+body_of (BufferData target usage (Bytes tail)) = le32 target ++ (le32 usage ++ tail.now)
+body_of GetError = []
+
+-- the operation, the body's length, and the body
+abbrev pub spelling : Call → List ℕ
+spelling call = le32 (op_of call) ++ (le32 (length (body_of call)) ++ body_of call)
+
+-- the fields are words
+abbrev pub HasWords : Call → Type 0
+HasWords (Create Buffer) = Unit {0}
+HasWords (BindBuffer target handle) = (target < 2 ^ 32) × (handle < 2 ^ 32)
+HasWords (BufferData target usage (Bytes tail)) = (target < 2 ^ 32) × (usage < 2 ^ 32)
+HasWords GetError = Unit {0}
+
+-- the call has a record: its fields are words, and its body is no longer than a body may be
+pub record Fits (call : Call) : Type 0 where
+  pub words : HasWords call
+  pub body : length (body_of call) ≤ BODY_MAX
+
+-- the call without where its tail lies in memory: calls with one spelling are equal so
+abbrev pub plain : Call → Call
+plain (Create Buffer) = Create Buffer
+plain (BindBuffer target handle) = BindBuffer target handle
+plain (BufferData target usage (Bytes tail)) = BufferData target usage (Bytes (record { ref_ptr = (0, 0); now = tail.now }))
+plain GetError = GetError
+
+-- the session's header: the text `WGLR`, and the version
+unfoldable pub session_start : List ℕ
+session_start = codes "WGLR" ++ le32 SESSION_VERSION
+
+-- the record that closes a session: no operation, and no body
+unfoldable pub closing_record : List ℕ
+closing_record = le32 CLOSE ++ le32 0
+
+-- a session: the header, the calls' records in order, and the closing record
+abbrev pub session : List Call → List ℕ
+session calls = session_start ++ (flat_map spelling calls ++ closing_record)

@@ -1,0 +1,67 @@
+ghost use Rattle.std.specs.Prelude.{◌≡◌, ℕ, length, true};
+ghost use Rattle.call_records.specs.Records.{operation_of, body_of, spelling, Fits};
+ghost use Rattle.call_records.specs.Operations.{allows, layout_of};
+
+use crate::operations::{BODY_MAX, HEADER_BYTES, Layout, Operation};
+use gl_numbers::{two_words, u32_at};
+
+/// What a call creates (WebGL 1.0 section 5.14).
+#[derive(Clone, Copy, Debug, PartialEq, Eq)]
+pub enum New {
+    /// createBuffer
+    Buffer,
+}
+
+/// What bufferData fills a buffer with (WebGL 1.0 section 5.14.5).
+#[derive(Clone, Copy, Debug, PartialEq, Eq)]
+pub enum Fill<'a> {
+    /// These bytes, which give the buffer its size.
+    Bytes(&'a [u8]),
+}
+
+/// A recorded call (WebGL 1.0 section 5.14) with its arguments as words, in the order of the record's fields.
+/// A tail of bytes borrows the record buffer.
+#[derive(Clone, Copy, Debug, PartialEq, Eq)]
+pub enum Call<'a> {
+    /// createBuffer
+    Create(New),
+    /// bindBuffer: target, handle.
+    BindBuffer(u32, u32),
+    /// bufferData: target, usage, content.
+    BufferData(u32, u32, Fill<'a>),
+    /// getError
+    GetError,
+}
+
+impl Call<'_> {
+    /// The bytes of the call's whole record, header and body.
+    #[tactic(auto, using(crate::proofs::Lengths::lengths))]
+    pub fn size(&self) -> usize
+        requires { Fits self.now }
+        ensures { result ≡ length (spelling self.now) }
+    {
+        HEADER_BYTES
+            + match self {
+                Call::Create(New::Buffer) => 0,
+                Call::BindBuffer(_, _) => 8,
+                Call::BufferData(_, _, Fill::Bytes(tail)) => 8 + tail.len(),
+                Call::GetError => 0,
+            }
+    }
+}
+
+/// The call of an operation with this body.
+pub fn call_of(operation: Operation, body: &[u8]) -> Call<'_>
+    requires { allows (layout_of operation) (length body.now) ≡ true }
+    ensures operation { operation_of result ≡ operation }
+    ensures body { body_of result ≡ body.now }
+{
+    match operation {
+        Operation::CreateBuffer => Call::Create(New::Buffer),
+        Operation::BindBuffer => Call::BindBuffer(u32_at(body), u32_at(&body[4..])),
+        Operation::BufferData => {
+            Call::BufferData(u32_at(body), u32_at(&body[4..]), Fill::Bytes(&body[8..]))
+        }
+        Operation::GetError => Call::GetError,
+    }
+}

@@ -1,0 +1,23 @@
+//! The records of a session (this project's own format): WebGL 1.0 calls as little-endian bytes, and the
+//! replies to them. The contract in one sentence: what a call of the reader takes is the spelling of its
+//! answer, each refusal comes exactly at its cause in the bytes, and what is written is the reply's spelling.
+#![tactic(auto)]
+
+mod calls;
+mod operations;
+mod reading;
+mod record_buf;
+mod replies;
+#[cfg(test)]
+mod tests;
+
+pub use calls::{Call, Fill, New};
+pub use operations::{
+    BIND_BUFFER, BODY_MAX, BUFFER_DATA, CLOSE, CREATE_BUFFER, GET_ERROR, HEADER_BYTES, Layout,
+    Operation,
+};
+pub use reading::{
+    INPUT_MAX, ReadEnd, SESSION_MAGIC, SESSION_VERSION, Step, read_call, read_start,
+};
+pub use record_buf::RecordBuf;
+pub use replies::{Reply, Value, write_reply};

@@ -1,0 +1,223 @@
+ghost use Rattle.std.specs.Prelude.{◌≡◌, ℕ, ◌+◌, ◌^◌, ◌<◌, ◌≤◌, ◌++◌, List, length, true, IfOk, OnOk, IfErr};
+ghost use Rattle.std.specs.Io.KnownBytes.{prepend_known};
+ghost use Rattle.gl_numbers.specs.Bytes.{le32};
+ghost use Rattle.wire_io.specs.Sources.{WhereTold};
+ghost use Rattle.call_records.specs.Operations.{allows, layout_of};
+ghost use Rattle.call_records.specs.Records.{session_start, Fits, operation_of, body_of, HasWords};
+ghost use Rattle.call_records.specs.Reading.{StartAnswers, Answers, Refuses, ReadCause, step_spelling, HasFits, IsStartEnd, IsRecordEnd, HasRoom};
+ghost use Rattle.call_records.specs.Parts.{EndsShort, Judges, TakesHead, EndsClosed};
+
+use crate::calls::{Call, call_of};
+use crate::operations::{BODY_MAX, CLOSE, HEADER_BYTES, Operation};
+use crate::record_buf::RecordBuf;
+use gl_numbers::u32_at;
+use wire_io::{Source, read_full};
+
+/// The first word of a session: the text `WGLR`.
+pub const SESSION_MAGIC: u32 = 0x524C_4757;
+/// The second word of a session: its version.
+pub const SESSION_VERSION: u32 = 1;
+/// The most bytes of a session up to its last header's end.
+pub const INPUT_MAX: u64 = 0x4000_0000_0000_0000;
+
+/// What the next record of a session is.
+#[derive(Clone, Copy, Debug, PartialEq, Eq)]
+pub enum Step<'a> {
+    /// A call.
+    Call(Call<'a>),
+    /// The closing record, with nothing after it.
+    End,
+}
+
+/// Why no record was read. Each offset counts bytes from the session's first.
+#[derive(Clone, Copy, Debug, PartialEq, Eq)]
+pub enum ReadEnd {
+    /// The input ended inside a header or a body, or before the closing record; at its length.
+    Truncated(u64),
+    /// The session doesn't begin with `WGLR`; at 0.
+    Magic(u64),
+    /// The session's version isn't 1; at 4.
+    Version(u64),
+    /// The operation isn't in the record table; at the record's first byte.
+    UnknownOp(u64),
+    /// The body is longer than 16,777,280 bytes; at the record's first byte.
+    BodyLong(u64),
+    /// The body's length isn't one that the operation allows; at the record's first byte.
+    BodyShape(u64),
+    /// A byte stands after the closing record; at that byte.
+    AfterEnd(u64),
+    /// The record's header would end past byte 2^62; at the record's first byte.
+    InputLong(u64),
+    /// The source failed.
+    ReadFault,
+}
+
+/// What a header that nothing refuses begins.
+#[derive(Clone, Copy)]
+enum Head {
+    /// The closing record.
+    Closing,
+    /// A call's record, with a body of this many bytes.
+    Record(Operation, usize),
+}
+
+/// Fills the piece, before which `at` bytes of the session were taken.
+fn fill<S: Source>(input: &mut S, at: u64, piece: &mut [u8]) -> Result<(), ReadEnd>
+    requires { at + length piece.old < 2 ^ 64 }
+    ensures filled { OnOk result (S.left input.old ≡ prepend_known piece.new (S.left input.new)) }
+    ensures short { IfErr result (EndsShort at (length piece.old) (S.left input.old) (S.left input.new)) }
+    ensures cause { ReadCause (S.faults input.old) (S.faults input.new) result }
+{
+    let Ok(n) = read_full(input, piece) else {
+        return Err(ReadEnd::ReadFault);
+    };
+    if n < piece.len() {
+        return Err(ReadEnd::Truncated(at + n as u64));
+    }
+    Ok(())
+}
+
+/// Reads two words, before which `at` bytes of the session were taken.
+fn read_words<S: Source>(input: &mut S, at: u64) -> Result<(u32, u32), ReadEnd>
+    requires { at ≤ 2 ^ 63 }
+    ensures taken { IfOk result (λ words. S.left input.old ≡ prepend_known (le32 words.0 ++ le32 words.1) (S.left input.new)) }
+    ensures range { IfOk result (λ words. (words.0 < 2 ^ 32) × (words.1 < 2 ^ 32)) }
+    ensures short { IfErr result (EndsShort at HEADER_BYTES (S.left input.old) (S.left input.new)) }
+    ensures cause { ReadCause (S.faults input.old) (S.faults input.new) result }
+{
+    let mut words = [0u8; 8];
+    match fill(input, at, &mut words) {
+        Ok(()) => Ok((u32_at(&words), u32_at(&words[4..]))),
+        Err(end) => Err(end),
+    }
+}
+
+/// Judges a header: its operation, and then its body's length.
+fn judge(number: u32, len: usize, at: u64) -> Result<Head, ReadEnd>
+    ensures { Judges at number len result }
+{
+    let operation = Operation::from_u32(number);
+    if number != CLOSE && operation.is_none() {
+        return Err(ReadEnd::UnknownOp(at));
+    }
+    if len > BODY_MAX {
+        return Err(ReadEnd::BodyLong(at));
+    }
+    match operation {
+        None if len == 0 => Ok(Head::Closing),
+        Some(operation) if operation.layout().allows(len) => Ok(Head::Record(operation, len)),
+        _ => Err(ReadEnd::BodyShape(at)),
+    }
+}
+
+/// Reads and judges a record's header.
+fn read_head<S: Source>(input: &mut S, at: u64) -> Result<Head, ReadEnd>
+    requires { at + HEADER_BYTES ≤ INPUT_MAX }
+    ensures taken { IfOk result (TakesHead (S.left input.old) (S.left input.new)) }
+    ensures refused { IfErr result (λ end. WhereTold (λ old new. Refuses at old new end) (S.left input.old) (S.left input.new)) }
+    ensures cause { ReadCause (S.faults input.old) (S.faults input.new) result }
+    ensures room { HasRoom at result }
+    ensures never { IfErr result IsRecordEnd }
+{
+    match read_words(input, at) {
+        Ok((number, len)) => judge(number, len as usize, at),
+        Err(end) => Err(end),
+    }
+}
+
+/// Reads a call's body into the buffer.
+fn read_body<'b, S: Source>(
+    input: &mut S,
+    at: u64,
+    operation: Operation,
+    len: usize,
+    buf: &'b mut RecordBuf,
+) -> Result<Call<'b>, ReadEnd>
+    requires place { at ≤ 2 ^ 63 }
+    requires within { len ≤ BODY_MAX }
+    requires shape { allows (layout_of operation) len ≡ true }
+    ensures operation { IfOk result (λ call. operation_of call ≡ operation) }
+    ensures len { IfOk result (λ call. length (body_of call) ≡ len) }
+    ensures words { IfOk result HasWords }
+    ensures taken { IfOk result (λ call. S.left input.old ≡ prepend_known (body_of call) (S.left input.new)) }
+    ensures short { IfErr result (EndsShort at len (S.left input.old) (S.left input.new)) }
+    ensures cause { ReadCause (S.faults input.old) (S.faults input.new) result }
+{
+    let body = &mut buf.bytes_mut()[..len];
+    match fill(input, at, body) {
+        Ok(()) => Ok(call_of(operation, body)),
+        Err(end) => Err(end),
+    }
+}
+
+/// Sees that the input ends here, after the closing record.
+fn see_end<S: Source>(input: &mut S, at: u64) -> Result<(), ReadEnd>
+    ensures end { EndsClosed at (S.left input.old) (S.left input.new) result }
+    ensures cause { ReadCause (S.faults input.old) (S.faults input.new) result }
+{
+    let mut byte = [0u8; 1];
+    let Ok(n) = read_full(input, &mut byte) else {
+        return Err(ReadEnd::ReadFault);
+    };
+    if n > 0 {
+        return Err(ReadEnd::AfterEnd(at));
+    }
+    Ok(())
+}
+
+/// Reads a session's header. ReadFault comes only where the source's number of faults rose; Truncated, Magic
+/// and Version come exactly by the bytes.
+#[tactic(auto, using(crate::proofs::Refusals::start_good))]
+pub fn read_start<S: Source>(input: &mut S) -> Result<(), ReadEnd>
+    ensures taken { OnOk result (S.left input.old ≡ prepend_known session_start (S.left input.new)) }
+    ensures answers { WhereTold (λ old new. StartAnswers old new result) (S.left input.old) (S.left input.new) }
+    ensures cause { ReadCause (S.faults input.old) (S.faults input.new) result }
+    ensures never { IfErr result IsStartEnd }
+{
+    let (magic, version) = match read_words(input, 0) {
+        Ok(words) => words,
+        Err(end) => return Err(end),
+    };
+    if magic != SESSION_MAGIC {
+        return Err(ReadEnd::Magic(0));
+    }
+    if version != SESSION_VERSION {
+        return Err(ReadEnd::Version(4));
+    }
+    Ok(())
+}
+
+/// Reads the next record, of which `at` bytes of the session stand before. A call's tail borrows `buf`. After
+/// the closing record it sees that the input ends there. ReadFault comes only where the source's number of
+/// faults rose; every other refusal comes exactly by the bytes and `at`.
+#[tactic(auto, using(crate::proofs::Lengths::lengths))]
+pub fn read_call<'b, S: Source>(
+    input: &mut S,
+    at: u64,
+    buf: &'b mut RecordBuf,
+) -> Result<Step<'b>, ReadEnd>
+    requires { at ≤ 2 ^ 63 }
+    ensures taken { IfOk result (λ step. S.left input.old ≡ prepend_known (step_spelling step) (S.left input.new)) }
+    ensures answers { WhereTold (λ old new. Answers at old new result) (S.left input.old) (S.left input.new) }
+    ensures cause { ReadCause (S.faults input.old) (S.faults input.new) result }
+    ensures room { HasRoom at result }
+    ensures size { IfOk result (λ step. length (step_spelling step) ≤ HEADER_BYTES + BODY_MAX) }
+    ensures fits { IfOk result HasFits }
+    ensures never { IfErr result IsRecordEnd }
+{
+    if at > INPUT_MAX - HEADER_BYTES as u64 {
+        return Err(ReadEnd::InputLong(at));
+    }
+    let after = at + HEADER_BYTES as u64;
+    match read_head(input, at) {
+        Err(end) => Err(end),
+        Ok(Head::Closing) => match see_end(input, after) {
+            Ok(()) => Ok(Step::End),
+            Err(end) => Err(end),
+        },
+        Ok(Head::Record(operation, len)) => match read_body(input, after, operation, len, buf) {
+            Ok(call) => Ok(Step::Call(call)),
+            Err(end) => Err(end),
+        },
+    }
+}

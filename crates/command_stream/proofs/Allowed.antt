@@ -1,0 +1,24 @@
+-- Which commands' bodies are short enough: all that are words alone, and those with few enough bytes.
+use Rattle.std.proofs.Common.{ℕ, ◌+◌, ◌≤◌, List, length, Bor, arith}
+use Rattle.gl_numbers.specs.Bytes.{le32}
+use Rattle.command_stream.specs.declared.operation.TheConstants.{BODY_MAX}
+use Rattle.command_stream.specs.declared.command.Command.TheVariants.{MakeBuffer, BindBuffer, BufferSize, BufferBytes}
+use Rattle.command_stream.specs.Commands.{Allowed}
+
+pub make_buffer_allowed : (name : ℕ) → Allowed (MakeBuffer name)
+unfolding le32
+make_buffer_allowed name = omega arith
+
+pub bind_buffer_allowed : (target name : ℕ) → Allowed (BindBuffer target name)
+unfolding le32
+bind_buffer_allowed target name = omega arith
+
+pub buffer_size_allowed : (target usage size : ℕ) → Allowed (BufferSize target usage size)
+unfolding le32
+buffer_size_allowed target usage size = omega arith
+
+pub buffer_bytes_allowed : (target offset : ℕ) (bytes : Bor (List ℕ)) → 8 + length bytes.now ≤ BODY_MAX → Allowed (BufferBytes target offset bytes)
+unfolding le32
+buffer_bytes_allowed target offset bytes short = omega arith
+
+pub ruleset allowed_commands = (make_buffer_allowed, bind_buffer_allowed, buffer_size_allowed, buffer_bytes_allowed)

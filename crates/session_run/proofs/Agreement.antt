@@ -1,0 +1,286 @@
+-- The driver agrees with the page after a change of one buffer on both sides.
+use Rattle.std.proofs.Common.{◌≡◌, ℕ, zero, suc, ◌+◌, ◌-◌, Bool, true, false, Option, Some, None, IsSome, List, [], ◌∷◌, ◌++◌, length, refl, sym, ap, subst, ◌∙◌, arith, inl, inr, lit<}
+use Rattle.std.specs.Prelude.{slice_get, nat_eq, if◌then◌else◌, unwrap_or, ◌==◌}
+use Rattle.std.specs.Option.{option_map, option_and_then}
+use Rattle.std.proofs.lemmas.Bool.{ne_eqb}
+use Rattle.std.proofs.lemmas.Bool.Decides.{eqb_tells}
+use Rattle.gl_numbers.specs.BufferWords.{buffer_target_of}
+use Rattle.gl_numbers.specs.declared.buffer_words.BufferTarget.{BufferTarget}
+use Rattle.gl_numbers.specs.declared.buffer_words.BufferTarget.TheVariants.{Array, ElementArray}
+use Rattle.gl_model.specs.Buffers.{Buffer, Bindings, new_buffer, take_target, binding, bound_to, bind, non_zero}
+use Rattle.gl_model.specs.PageState.{PageState, Object, buffer_object, as_buffer, buffer_at, on_buffer, changed_at, with_buffer}
+use Rattle.gl_model.specs.DriverState.{DriverState, with_name}
+use Rattle.gl_model.specs.DriverStep.{is_name, with_bound, effect}
+use Rattle.command_stream.specs.declared.command.Command.TheVariants.{BindBuffer}
+use Rattle.gl_model.specs.Errors.{ErrorSet}
+use Rattle.session_run.specs.Sent.{driver_name, bound_name}
+use Rattle.session_run.specs.Stands.{Agrees, IsThere}
+use Rattle.session_run.specs.BufferRecords.{create_effect, next_handle, bind_effect}
+
+-- the element that was changed
+pub slice_get-changed_same : {A : Type 0} (change : A → A) (xs : List A) (i : ℕ) → slice_get (changed_at change xs i) i ≡ option_map change (slice_get xs i)
+slice_get-changed_same change [] i = refl
+slice_get-changed_same change (x ∷ xs) zero = refl
+slice_get-changed_same change (x ∷ xs) (suc i) = slice_get-changed_same change xs i
+
+-- an element that wasn't changed
+pub slice_get-changed_other : {A : Type 0} (change : A → A) (xs : List A) (j i : ℕ) → (i ≡ j → ⊥) → slice_get (changed_at change xs j) i ≡ slice_get xs i
+slice_get-changed_other change [] j i other = refl
+slice_get-changed_other change (x ∷ xs) zero zero other = absurd (other refl)
+slice_get-changed_other change (x ∷ xs) zero (suc i) other = refl
+slice_get-changed_other change (x ∷ xs) (suc j) zero other = refl
+slice_get-changed_other change (x ∷ xs) (suc j) (suc i) other = slice_get-changed_other change xs j i (λ e. other (ap suc e))
+
+-- the buffer that a changed object is
+pub as_buffer-changed : (change : Buffer → Buffer) (o : Option Object)
+    → option_and_then as_buffer (option_map (on_buffer change) o) ≡ option_map change (option_and_then as_buffer o)
+as_buffer-changed change None = refl
+as_buffer-changed change (Some (buffer_object b)) = refl
+
+-- the buffer of a handle that was changed
+pub buffer_at-same : (change : Buffer → Buffer) (objects : List Object) (handle : ℕ)
+    → buffer_at (with_buffer change objects handle) handle ≡ option_map change (buffer_at objects handle)
+buffer_at-same change objects handle =
+    elim (eqb_tells handle 0) [
+      | inl null ↦ rw null.0 refl
+      | inr given ↦ rw given.0 (rw (slice_get-changed_same (on_buffer change) objects (handle - 1)) (as_buffer-changed change (slice_get objects (handle - 1))))
+    ]
+
+-- the buffer of another handle
+pub buffer_at-other : (change : Buffer → Buffer) (objects : List Object) (handle k : ℕ) → (k ≡ handle → ⊥)
+    → buffer_at (with_buffer change objects handle) k ≡ buffer_at objects k
+buffer_at-other change objects handle k other =
+    elim (eqb_tells handle 0) [
+      | inl null ↦ rw null.0 refl
+      | inr given ↦ elim (eqb_tells k 0) [
+        | inl none ↦ rw none.0 refl
+        | inr some ↦ rw (given.0, some.0) (ap (option_and_then as_buffer) (slice_get-changed_other (on_buffer change) objects (handle - 1) (k - 1) (λ e. other (omega arith))))
+      ]
+    ]
+
+-- a change leaves that there is a buffer
+pub some-map : (change : Buffer → Buffer) (b : Option Buffer) → IsSome b → IsSome (option_map change b)
+some-map change None there = absurd cc
+some-map change (Some b) there = refl
+
+-- a change leaves which handles have a buffer
+pub there-with_buffer : (change : Buffer → Buffer) (objects : List Object) (handle k : ℕ) → IsSome (buffer_at objects k)
+    → IsSome (buffer_at (with_buffer change objects handle) k)
+there-with_buffer change objects handle k there =
+    elim (eqb_tells k handle) [
+      | inl same ↦ let there' = subst (λ (h : ℕ). IsSome (buffer_at objects h)) same.1 there in rw same.1 (rw (buffer_at-same change objects handle) (some-map change (buffer_at objects handle) there'))
+      | inr other ↦ rw (buffer_at-other change objects handle k other.1) there
+    ]
+
+-- what is bound is there after a change
+pub IsThere-with_buffer : (change : Buffer → Buffer) (objects : List Object) (handle : ℕ) (bound : Option ℕ) → IsThere objects bound
+    → IsThere (with_buffer change objects handle) bound
+IsThere-with_buffer change objects handle None there = there
+IsThere-with_buffer change objects handle (Some h) there = there-with_buffer change objects handle h there
+
+-- the driver's name of what is bound
+pub bound_to-agrees : (w : PageState) (g : DriverState) → Agrees w g → (target : ℕ) → bound_to g.bound target ≡ option_map driver_name (bound_to w.bound target)
+bound_to-agrees w g a target =
+    elim (buffer_target_of target) as (λ t. option_and_then (binding g.bound) t ≡ option_map driver_name (option_and_then (binding w.bound) t)) [
+      | None ↦ refl
+      | Some t ↦ elim t as (λ u. binding g.bound u ≡ option_map driver_name (binding w.bound u)) [ Array ↦ a.array | ElementArray ↦ a.element_array ]
+    ]
+
+-- what is bound is there
+pub bound_to-there : (w : PageState) (g : DriverState) → Agrees w g → (target : ℕ) → IsThere w.objects (bound_to w.bound target)
+bound_to-there w g a target =
+    elim (buffer_target_of target) as (λ t. IsThere w.objects (option_and_then (binding w.bound) t)) [
+      | None ↦ tt
+      | Some t ↦ elim t as (λ u. IsThere w.objects (binding w.bound u)) [ Array ↦ a.array_there | ElementArray ↦ a.element_array_there ]
+    ]
+
+-- no buffer is changed to one
+pub none-either : (change : Buffer → Buffer) (test : Bool) → ◌≡◌ {A = Option Buffer} (if test then option_map change None else None) None
+none-either change true = refl
+none-either change false = refl
+
+-- the driver's buffers after a change of the bound one
+pub made-with_bound : (change : Buffer → Buffer) (objects : List Object) (buffers : ℕ → Option Buffer) (bound : Option ℕ)
+    → ((handle : ℕ) → buffers (driver_name handle) ≡ buffer_at objects handle) → (k : ℕ)
+    → (if is_name (driver_name k) (option_map driver_name bound) then option_map change (buffers (driver_name k)) else buffers (driver_name k))
+    ≡ buffer_at (with_buffer change objects (unwrap_or bound 0)) k
+made-with_bound change objects buffers None made k = made k
+made-with_bound change objects buffers (Some h) made k =
+    elim (eqb_tells (driver_name k) (driver_name h)) [
+      | inl same ↦ let e : k ≡ h = omega (arith, same.1) in rw same.0 (rw (made k) (rw e (sym (buffer_at-same change objects h))))
+      | inr other ↦ rw other.0 (made k ∙ sym (buffer_at-other change objects h k (λ e. other.1 (ap driver_name e))))
+    ]
+
+-- the bound buffer was changed on both sides
+pub agrees-with_bound : (change : Buffer → Buffer) (w : PageState) (g : DriverState) (target : ℕ) → Agrees w g
+    → Agrees (record w { objects = with_buffer change w.objects (unwrap_or (bound_to w.bound target) 0) }) (with_bound change g target)
+agrees-with_bound change w g target a = record {
+  made = λ k. rw (bound_to-agrees w g a target) (made-with_bound change w.objects g.buffers (bound_to w.bound target) a.made k);
+  others = λ name low. rw (a.others name low) (none-either change _);
+  array = a.array;
+  element_array = a.element_array;
+  array_there = IsThere-with_buffer change w.objects _ w.bound.array a.array_there;
+  element_array_there = IsThere-with_buffer change w.objects _ w.bound.element_array a.element_array_there;
+}
+
+-- the error flags are the page's alone
+pub agrees-errors : (w : PageState) (g : DriverState) (errors : ErrorSet) → Agrees w g → Agrees (record w { errors = errors }) g
+agrees-errors w g errors a = record {
+  made = a.made;
+  others = a.others;
+  array = a.array;
+  element_array = a.element_array;
+  array_there = a.array_there;
+  element_array_there = a.element_array_there;
+}
+
+-- the object that was pushed
+pub slice_get-pushed : {A : Type 0} (xs : List A) (x : A) → slice_get (xs ++ x ∷ []) (length xs) ≡ Some x
+slice_get-pushed [] x = refl
+slice_get-pushed (y ∷ xs) x = slice_get-pushed xs x
+
+-- the objects before it
+pub slice_get-before : {A : Type 0} (xs : List A) (x : A) (i : ℕ) → (i ≡ length xs → ⊥) → slice_get (xs ++ x ∷ []) i ≡ slice_get xs i
+slice_get-before [] x zero other = absurd (other refl)
+slice_get-before [] x (suc i) other = refl
+slice_get-before (y ∷ xs) x zero other = refl
+slice_get-before (y ∷ xs) x (suc i) other = slice_get-before xs x i (λ e. other (ap suc e))
+
+-- the buffer of the next handle, once it was given
+pub buffer_at-pushed : (objects : List Object) (o : Object) → buffer_at (objects ++ o ∷ []) (length objects + 1) ≡ as_buffer o
+buffer_at-pushed objects o =
+    let given : nat_eq (length objects + 1) 0 ≡ false = ne_eqb _ _ (λ e. omega arith) in
+    let place : length objects + 1 - 1 ≡ length objects = omega arith in
+    rw (given, place) (ap (option_and_then as_buffer) (slice_get-pushed objects o))
+
+-- the buffers of the other handles
+pub buffer_at-before : (objects : List Object) (o : Object) (k : ℕ) → (k ≡ length objects + 1 → ⊥) → buffer_at (objects ++ o ∷ []) k ≡ buffer_at objects k
+buffer_at-before objects o k other =
+    elim (eqb_tells k 0) [
+      | inl null ↦ rw null.0 refl
+      | inr given ↦ rw given.0 (ap (option_and_then as_buffer) (slice_get-before objects o (k - 1) (λ e. other (omega arith))))
+    ]
+
+-- what is bound is there after one more buffer was made
+pub IsThere-create : (w : PageState) (bound : Option ℕ) → IsThere w.objects bound → IsThere (create_effect w).objects bound
+IsThere-create w None there = there
+IsThere-create w (Some h) there =
+    elim (eqb_tells h (length w.objects + 1)) [
+      | inl last ↦ rw last.1 (rw (buffer_at-pushed w.objects (buffer_object new_buffer)) refl)
+      | inr other ↦ rw (buffer_at-before w.objects (buffer_object new_buffer) h other.1) there
+    ]
+
+-- a new buffer on both sides
+pub agrees-create : (w : PageState) (g : DriverState) → Agrees w g
+    → Agrees (create_effect w) (record g { buffers = with_name g.buffers (driver_name (next_handle w)) (Some new_buffer) })
+agrees-create w g a = record {
+  made = λ k. elim (eqb_tells (driver_name k) (driver_name (next_handle w))) [
+    | inl same ↦ let e : k ≡ length w.objects + 1 = omega (arith, same.1) in rw same.0 (rw e (sym (buffer_at-pushed w.objects (buffer_object new_buffer))))
+    | inr other ↦ rw other.0 (a.made k ∙ sym (buffer_at-before w.objects (buffer_object new_buffer) k (λ e. other.1 (ap driver_name e))))
+  ];
+  others = λ name low. let free : nat_eq name (driver_name (next_handle w)) ≡ false = ne_eqb _ _ (λ e. omega arith) in rw free (a.others name low);
+  array = a.array;
+  element_array = a.element_array;
+  array_there = IsThere-create w w.bound.array a.array_there;
+  element_array_there = IsThere-create w w.bound.element_array a.element_array_there;
+}
+
+-- the driver's name of what is bound has the page's buffer
+pub named : (w : PageState) (g : DriverState) → Agrees w g → (handle : ℕ) → g.buffers (bound_name handle) ≡ buffer_at w.objects handle
+named w g a handle =
+    elim (eqb_tells handle 0) [
+      | inl null ↦ let e : bound_name handle ≡ 0 = rw null.0 refl in let none : buffer_at w.objects handle ≡ None = rw null.0 refl in
+          ap g.buffers e ∙ a.others 0 (lit< tt) ∙ sym none
+      | inr given ↦ let e : bound_name handle ≡ driver_name handle = rw given.0 refl in ap g.buffers e ∙ a.made handle
+    ]
+
+-- no handle but 0 has a name that is 0
+pub bound_name-zero : (handle : ℕ) → nat_eq (bound_name handle) 0 ≡ nat_eq handle 0
+bound_name-zero handle =
+    elim (eqb_tells handle 0) [
+      | inl null ↦ rw null.0 refl
+      | inr given ↦ rw given.0 (ne_eqb (driver_name handle) 0 (λ e. omega arith))
+    ]
+
+-- what is to be bound, by the driver's names
+pub non_zero-bound_name : (handle : ℕ) → non_zero (bound_name handle) ≡ option_map driver_name (non_zero handle)
+non_zero-bound_name handle =
+    elim (eqb_tells handle 0) [
+      | inl null ↦ rw null.0 refl
+      | inr given ↦ rw given.0 (rw (ne_eqb (driver_name handle) 0 (λ e. omega arith)) refl)
+    ]
+
+-- the bound buffer's name is its handle's alone
+pub bound_name-driver : (handle k : ℕ) → driver_name k ≡ bound_name handle → k ≡ handle
+bound_name-driver handle k e =
+    elim (eqb_tells handle 0) [
+      | inl null ↦ let e0 : bound_name handle ≡ 0 = rw null.0 refl in absurd (omega (arith, e, e0))
+      | inr given ↦ let e1 : bound_name handle ≡ handle + 2 = rw given.0 refl in omega (arith, e, e1)
+    ]
+
+-- the buffer of a handle whose name wasn't bound stays
+pub unnamed-other : (change : Buffer → Buffer) (objects : List Object) (handle k : ℕ) → (driver_name k ≡ bound_name handle → ⊥)
+    → buffer_at (with_buffer change objects handle) k ≡ buffer_at objects k
+unnamed-other change objects handle k other =
+    elim (eqb_tells handle 0) [
+      | inl null ↦ rw null.0 refl
+      | inr given ↦ let e : bound_name handle ≡ driver_name handle = rw given.0 refl in
+          buffer_at-other change objects handle k (λ same. other (ap driver_name same ∙ sym e))
+    ]
+
+-- a buffer of its handle's name was changed on both sides
+pub made-with_name : (change : Buffer → Buffer) (objects : List Object) (buffers : ℕ → Option Buffer) (handle k : ℕ)
+    → ((h : ℕ) → buffers (driver_name h) ≡ buffer_at objects h) → buffers (bound_name handle) ≡ buffer_at objects handle
+    → (if driver_name k == bound_name handle then option_map change (buffers (bound_name handle)) else buffers (driver_name k))
+    ≡ buffer_at (with_buffer change objects handle) k
+made-with_name change objects buffers handle k made own =
+    elim (eqb_tells (driver_name k) (bound_name handle)) [
+      | inl same ↦ let e = bound_name-driver handle k same.1 in rw (same.0, own, e) (sym (buffer_at-same change objects handle))
+      | inr other ↦ rw other.0 (made k ∙ sym (unnamed-other change objects handle k other.1))
+    ]
+
+-- the names below 2 stay free
+pub others-bound : (buffers : ℕ → Option Buffer) (change : Buffer → Buffer) (handle name : ℕ) → buffers name ≡ None
+    → with_name buffers (bound_name handle) (option_map change (buffers (bound_name handle))) name ≡ None
+others-bound buffers change handle name free =
+    elim (eqb_tells name (bound_name handle)) [
+      | inl same ↦ let own : buffers (bound_name handle) ≡ None = ap buffers (sym same.1) ∙ free in rw (same.0, own) refl
+      | inr other ↦ rw other.0 free
+    ]
+
+-- a target's binding changed on both sides
+pub bind-array : (target : Option BufferTarget) (gb wb : Bindings) (n m : Option ℕ) → n ≡ option_map driver_name m → gb.array ≡ option_map driver_name wb.array
+    → (bind target n gb).array ≡ option_map driver_name (bind target m wb).array
+bind-array None gb wb n m e a = a
+bind-array (Some Array) gb wb n m e a = e
+bind-array (Some ElementArray) gb wb n m e a = a
+
+pub bind-element_array : (target : Option BufferTarget) (gb wb : Bindings) (n m : Option ℕ) → n ≡ option_map driver_name m
+    → gb.element_array ≡ option_map driver_name wb.element_array → (bind target n gb).element_array ≡ option_map driver_name (bind target m wb).element_array
+bind-element_array None gb wb n m e a = a
+bind-element_array (Some Array) gb wb n m e a = a
+bind-element_array (Some ElementArray) gb wb n m e a = e
+
+-- what is bound is there where what was bound and what is to be bound are
+pub bind-there : (objects : List Object) (target : Option BufferTarget) (wb : Bindings) (m : Option ℕ) → IsThere objects m → IsThere objects wb.array
+    → IsThere objects wb.element_array → IsThere objects (bind target m wb).array × IsThere objects (bind target m wb).element_array
+bind-there objects None wb m h a e = (a, e)
+bind-there objects (Some Array) wb m h a e = (h, e)
+bind-there objects (Some ElementArray) wb m h a e = (a, h)
+
+-- a buffer, or none, was bound on both sides
+pub agrees-bind : (w : PageState) (g : DriverState) (target handle : ℕ) → Agrees w g → IsThere w.objects (non_zero handle)
+    → Agrees (bind_effect w target handle) (effect g (BindBuffer target (bound_name handle)))
+agrees-bind w g target handle a there =
+    let take = take_target (buffer_target_of target) in
+    let both = bind-there (with_buffer take w.objects handle) (buffer_target_of target) w.bound (non_zero handle)
+    (IsThere-with_buffer take w.objects handle (non_zero handle) there) (IsThere-with_buffer take w.objects handle w.bound.array a.array_there)
+    (IsThere-with_buffer take w.objects handle w.bound.element_array a.element_array_there) in
+    record {
+      made = λ k. made-with_name take w.objects g.buffers handle k a.made (named w g a handle);
+      others = λ name low. others-bound g.buffers take handle name (a.others name low);
+      array = bind-array (buffer_target_of target) g.bound w.bound _ _ (non_zero-bound_name handle) a.array;
+      element_array = bind-element_array (buffer_target_of target) g.bound w.bound _ _ (non_zero-bound_name handle) a.element_array;
+      array_there = both.0;
+      element_array_there = both.1;
+    }

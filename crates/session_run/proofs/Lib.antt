@@ -1,0 +1,15 @@
+pub mod Objects
+pub mod Agreement
+pub mod Following
+pub mod Steps
+pub mod Kept
+pub mod SentBytes
+pub mod Answering
+pub mod Pushing
+pub mod Looping
+pub mod Cutting
+pub mod Telling
+pub mod Completing
+pub mod Finishing
+pub mod OneStream
+pub mod OneSession

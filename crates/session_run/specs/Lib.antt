@@ -1,0 +1,11 @@
+pub mod BufferRecords
+pub mod ErrorRecords
+pub mod PageStep
+pub mod PageRun
+pub mod Sent
+pub mod Stands
+pub mod Applied
+pub mod Follows
+pub mod Sessions
+pub mod Causes
+pub mod Outcomes

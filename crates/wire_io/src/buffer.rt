@@ -1,0 +1,236 @@
+ghost use Rattle.std.specs.Prelude.{◌≡◌, ◌+◌, ◌-◌, ◌^◌, ◌<◌, ◌≤◌, ◌↔◌, [], ◌++◌, min, length, take, drop, OnOk, OnErr};
+ghost use Rattle.std.specs.Io.KnownBytes.{IsAtEnd};
+ghost use Rattle.wire_io.specs.Faults.{CountsErrors, HasCause};
+ghost use Rattle.wire_io.specs.Buffers.{BufferState, empty_buffer, Gives, GivesWaiting, KeepsShort, Passes, ReadsThrough, WritesThrough};
+
+use crate::copies::{copy_front, copy_rest};
+use crate::status::Failed;
+use std::io::{Read, Write};
+use std::marker::Model;
+
+/// How many bytes a buffer holds.
+const CAPACITY: usize = 65_536;
+
+/// Bytes that wait in order, in a fixed array, on their way from a reader or to a writer; and how many faults
+/// there were. Pieces of the array's size or more go past it, once nothing waits.
+#[derive(Drop)]
+pub struct Buffer {
+    bytes: [u8; CAPACITY],
+    start: usize,
+    end: usize,
+    faults: u64,
+}
+
+impl Model for Buffer {
+    ghost use Rattle.wire_io.specs.Buffers.{BufferState};
+    ghost use Rattle.wire_io.specs.declared.buffer.TheConstants.{CAPACITY};
+
+    ghost Value = { BufferState };
+
+    ghost use Rattle.std.specs.Prelude.{◌-◌, ◌≤◌, take, drop};
+
+    ghost view = { λ b. record { waiting = drop b.start (take b.end b.bytes); room = CAPACITY - b.end; faults = b.faults } };
+
+    ghost invariant = { λ b. (b.start ≤ b.end) × (b.end ≤ CAPACITY) };
+}
+
+/// Copies as many bytes of the piece as fit behind the first `end`, and answers how many.
+fn put_behind(bytes: &mut [u8], end: usize, piece: &[u8]) -> usize
+    requires { end ≤ length bytes.old }
+    ensures fits { result ≡ min (length piece.now) (length bytes.old - end) }
+    ensures content { take (end + result) bytes.new ≡ take end bytes.old ++ take result piece.now }
+{
+    copy_front(piece, &mut bytes[end..])
+}
+
+/// Writes the bytes from `start` on, and moves `start` past those that were taken.
+fn write_out<W: Write>(bytes: &[u8], start: &mut usize, out: &mut W) -> Result<(), Failed>
+    requires { start.old ≤ length bytes.now }
+    ensures within { start.new ≤ length bytes.now }
+    ensures whole { OnOk result (start.new ≡ length bytes.now) }
+    ensures content { Passes (W.contents out.old) (W.contents out.new) (drop start.old bytes.now) [] (drop start.new bytes.now) }
+{
+    while *start < bytes.len() {
+        let Ok(n) = out.write(&bytes[*start..]) else {
+            return Err(Failed);
+        };
+        if n == 0 {
+            return Err(Failed);
+        }
+        *start += n;
+    }
+    Ok(())
+}
+
+impl Buffer {
+    /// An empty buffer without a fault.
+    pub fn new() -> Self
+        ensures { result ≡ empty_buffer }
+    {
+        Buffer {
+            bytes: [0; CAPACITY],
+            start: 0,
+            end: 0,
+            faults: 0,
+        }
+    }
+
+    /// Counts a fault.
+    pub fn fault(&mut self) -> Failed
+        ensures counted { self.new ≡ record self.old { faults = min (self.old.faults + 1) (2 ^ 64 - 1) } }
+        ensures later { self.old.faults ≤ self.new.faults }
+    {
+        self.faults = self.faults.saturating_add(1);
+        Failed
+    }
+
+    /// The bytes that wait.
+    fn waiting(&self) -> &[u8]
+        ensures { result.now ≡ self.now.waiting }
+    {
+        let filled = &self.bytes[..self.end];
+        &filled[self.start..]
+    }
+
+    /// Takes as much of the piece as there is room for, and answers how many bytes.
+    fn put(&mut self, piece: &[u8]) -> usize
+        ensures fits { result ≡ min (length piece.now) self.old.room }
+        ensures content { self.new.waiting ≡ self.old.waiting ++ take result piece.now }
+        ensures faults { self.new.faults ≡ self.old.faults }
+    {
+        let n = put_behind(&mut self.bytes, self.end, piece);
+        self.end += n;
+        n
+    }
+
+    /// Gives the next bytes that wait, as many as fit, and answers how many.
+    fn give(&mut self, into: &mut [u8]) -> usize
+        ensures fits { result ≡ min (length self.old.waiting) (length into.old) }
+        ensures content { self.old.waiting ≡ take result into.new ++ self.new.waiting }
+        ensures faults { self.new.faults ≡ self.old.faults }
+    {
+        let n = copy_rest(&self.bytes[..self.end], self.start, into);
+        self.start += n;
+        n
+    }
+
+    /// Reads as many bytes as the array has, where nothing waits.
+    fn fill<R: Read>(&mut self, from: &mut R) -> Result<(), Failed>
+        requires { self.old.waiting ≡ [] }
+        ensures content { OnOk result (Gives (R.remaining from.old) (R.remaining from.new) [] [] self.new.waiting) }
+        ensures end { OnOk result (self.new.waiting ≡ [] → IsAtEnd (R.remaining from.new)) }
+        ensures kept { OnErr result (Gives (R.remaining from.old) (R.remaining from.new) [] [] [] × (self.new.waiting ≡ [])) }
+        ensures cause { HasCause self.old.faults self.new.faults result }
+        ensures counted { CountsErrors self.old.faults self.new.faults result }
+    {
+        self.start = 0;
+        self.end = 0;
+        let Ok(n) = from.read(&mut self.bytes) else {
+            return Err(self.fault());
+        };
+        self.end = n;
+        Ok(())
+    }
+
+    /// Writes all that waits; what a fault leaves unwritten still waits.
+    fn drain<W: Write>(&mut self, out: &mut W) -> Result<(), Failed>
+        ensures whole { OnOk result ((self.new.waiting ≡ []) × (self.new.room ≡ CAPACITY)) }
+        ensures content { Passes (W.contents out.old) (W.contents out.new) self.old.waiting [] self.new.waiting }
+        ensures cause { HasCause self.old.faults self.new.faults result }
+        ensures counted { CountsErrors self.old.faults self.new.faults result }
+    {
+        let mut sent = 0;
+        let result = write_out(self.waiting(), &mut sent, out);
+        self.start += sent;
+        if result.is_err() {
+            return Err(self.fault());
+        }
+        self.start = 0;
+        self.end = 0;
+        Ok(())
+    }
+
+    /// Reads through the buffer: first what waits, then what the reader gives. A piece of the array's size or
+    /// more is read past the buffer, where nothing waits.
+    pub fn read_from<R: Read>(&mut self, from: &mut R, into: &mut [u8]) -> Result<usize, Failed>
+        ensures bytes { ReadsThrough (R.remaining from.old) (R.remaining from.new) self.old.waiting self.new.waiting result into.new }
+        ensures waiting { GivesWaiting self.old self.new result into.new }
+        ensures cause { HasCause self.old.faults self.new.faults result }
+        ensures counted { CountsErrors self.old.faults self.new.faults result }
+    {
+        if !self.waiting().is_empty() || into.is_empty() {
+            return Ok(self.give(into));
+        }
+        if into.len() >= CAPACITY {
+            return self.read_past(from, into);
+        }
+        let Ok(()) = self.fill(from) else {
+            return Err(Failed);
+        };
+        Ok(self.give(into))
+    }
+
+    /// Reads straight into the piece, where nothing waits.
+    fn read_past<R: Read>(&mut self, from: &mut R, into: &mut [u8]) -> Result<usize, Failed>
+        requires { self.old.waiting ≡ [] }
+        ensures bytes { ReadsThrough (R.remaining from.old) (R.remaining from.new) [] [] result into.new }
+        ensures stays { self.new.waiting ≡ [] }
+        ensures cause { HasCause self.old.faults self.new.faults result }
+        ensures counted { CountsErrors self.old.faults self.new.faults result }
+    {
+        let Ok(n) = from.read(into) else {
+            return Err(self.fault());
+        };
+        Ok(n)
+    }
+
+    /// Writes through the buffer: takes what there is room for. A piece of the array's size or more is written
+    /// past the buffer, once nothing waits.
+    pub fn write_to<W: Write>(&mut self, out: &mut W, piece: &[u8]) -> Result<usize, Failed>
+        ensures bytes { WritesThrough (W.contents out.old) (W.contents out.new) self.old.waiting self.new.waiting result piece.now }
+        ensures short { KeepsShort self.old self.new result piece.now }
+        ensures cause { HasCause self.old.faults self.new.faults result }
+        ensures counted { CountsErrors self.old.faults self.new.faults result }
+    {
+        let is_long = piece.len() >= CAPACITY;
+        if self.end == CAPACITY || is_long {
+            let Ok(()) = self.drain(out) else {
+                return Err(Failed);
+            };
+        }
+        if is_long {
+            return self.write_past(out, piece);
+        }
+        Ok(self.put(piece))
+    }
+
+    /// Writes the piece itself, where nothing waits.
+    fn write_past<W: Write>(&mut self, out: &mut W, piece: &[u8]) -> Result<usize, Failed>
+        requires { self.old.waiting ≡ [] }
+        ensures bytes { WritesThrough (W.contents out.old) (W.contents out.new) [] [] result piece.now }
+        ensures stays { self.new.waiting ≡ [] }
+        ensures cause { HasCause self.old.faults self.new.faults result }
+        ensures counted { CountsErrors self.old.faults self.new.faults result }
+    {
+        match out.write(piece) {
+            Ok(n) if n > 0 || piece.is_empty() => Ok(n),
+            _ => Err(self.fault()),
+        }
+    }
+
+    /// Writes all that waits, and has the writer hand on what it took.
+    pub fn flush_to<W: Write>(&mut self, out: &mut W) -> Result<(), Failed>
+        ensures whole { OnOk result (self.new.waiting ≡ []) }
+        ensures content { Passes (W.contents out.old) (W.contents out.new) self.old.waiting [] self.new.waiting }
+        ensures cause { HasCause self.old.faults self.new.faults result }
+        ensures counted { CountsErrors self.old.faults self.new.faults result }
+    {
+        let Ok(()) = self.drain(out) else {
+            return Err(Failed);
+        };
+        let Ok(()) = out.flush() else {
+            return Err(self.fault());
+        };
+        Ok(())
+    }
+}

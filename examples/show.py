@@ -1,0 +1,98 @@
+#!/usr/bin/env python3
+"""Prints a session's calls with their replies, and the commands of a stream: the bytes, and what they say.
+
+usage: examples/show.py SESSION REPLIES STREAM
+"""
+
+import pathlib
+import struct
+import sys
+
+CALLS = {1: "createBuffer", 19: "bindBuffer", 21: "bufferData", 86: "getError"}
+COMMANDS = {1: "MakeBuffer", 11: "BindBuffer", 12: "BufferSize", 13: "BufferBytes"}
+FIELDS = {
+    "createBuffer": [],
+    "bindBuffer": ["target", "handle"],
+    "bufferData": ["target", "usage"],
+    "getError": [],
+    "MakeBuffer": ["name"],
+    "BindBuffer": ["target", "name"],
+    "BufferSize": ["target", "usage", "size"],
+    "BufferBytes": ["target", "offset"],
+}
+WORDS = {
+    "target": {0x8892: "ARRAY_BUFFER", 0x8893: "ELEMENT_ARRAY_BUFFER"},
+    "usage": {0x88E0: "STREAM_DRAW", 0x88E4: "STATIC_DRAW", 0x88E8: "DYNAMIC_DRAW"},
+    "handle": {0: "null"},
+    "error": {
+        0: "NO_ERROR",
+        0x0500: "INVALID_ENUM",
+        0x0501: "INVALID_VALUE",
+        0x0502: "INVALID_OPERATION",
+        0x0505: "OUT_OF_MEMORY",
+        0x0506: "INVALID_FRAMEBUFFER_OPERATION",
+    },
+}
+
+
+def word(data, at):
+    return struct.unpack_from("<I", data, at)[0]
+
+
+def spelled(kind, value):
+    plain = f"0x{value:04X}" if kind in ("target", "usage", "error") else str(value)
+    return WORDS.get(kind, {}).get(value, plain)
+
+
+def framed(data, names):
+    """The name, the arguments and the bytes of each record or command after the header."""
+    at = 8
+    while at + 8 <= len(data):
+        operation, size = word(data, at), word(data, at + 4)
+        body = data[at + 8 : at + 8 + size]
+        if (operation, size) == (0, 0) or len(body) < size:
+            return
+        name = names.get(operation, f"operation {operation}")
+        fields = FIELDS.get(name, [])
+        arguments = [spelled(field, word(body, 4 * i)) for i, field in enumerate(fields)]
+        tail = body[4 * len(fields) :]
+        if name in ("bufferData", "BufferBytes"):
+            arguments.append(f"{len(tail)} bytes")
+        yield name, f"{name}({', '.join(arguments)})", data[at : at + 8 + size]
+        at += 8 + size
+
+
+def replied(data, at, name):
+    """What the reply at this byte says, and its size."""
+    raised, tag = word(data, at), word(data, at + 4)
+    if raised:
+        return f"raises {spelled('error', raised)}", 8
+    if tag == 0:
+        return "done", 8
+    value = word(data, at + 8)
+    return spelled("error" if name == "getError" else "number", value), 12
+
+
+def shown(data):
+    text = data[:40].hex(" ", -4)
+    return text if len(data) <= 40 else f"{text} .."
+
+
+def main():
+    session, replies, stream = (pathlib.Path(path).read_bytes() for path in sys.argv[1:4])
+    print("calls and replies")
+    at = 0
+    for name, call, _ in framed(session, CALLS):
+        if at + 8 > len(replies):
+            print(f"  {call:<58} no reply")
+            continue
+        said, size = replied(replies, at, name)
+        print(f"  {call:<58} {said:<27} {shown(replies[at:at + size])}")
+        at += size
+    print("commands")
+    for _, command, data in framed(stream, COMMANDS):
+        print(f"  {command:<58} {shown(data)}")
+
+
+if __name__ == "__main__":
+    main()
