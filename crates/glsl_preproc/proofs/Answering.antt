@@ -1,5 +1,5 @@
 -- A list with its `defined` answered, one token at a time.
-use Rattle.std.proofs.Common.{◌≡◌, ◌<◌, ◌++◌, ℕ, zero, suc, List, [], ◌∷◌, length, drop, get_or, Option, Some, None, refl, sym, ap, ◌∙◌, arith}
+use Rattle.std.proofs.Common.{◌≡◌, ◌<◌, ◌++◌, ℕ, zero, suc, List, [], ◌∷◌, length, drop, get_or, Option, Some, None, refl, sym, ap, ◌∙◌}
 use Rattle.std.proofs.lemmas.List.{drop-map}
 use Rattle.glsl_tree.specs.Token.{PlainToken, plain, plain_tokens}
 use Rattle.glsl_tree.specs.declared.token.Token.{Token}

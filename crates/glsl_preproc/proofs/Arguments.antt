@@ -1,11 +1,11 @@
 -- The arguments of a macro, from the first on.
-use Rattle.std.proofs.Common.{◌≡◌, ◌<◌, ◌++◌, ℕ, Bool, true, false, cond, List, [], ◌∷◌, length, drop, get_or, Option, Some, None, refl, sym, ap, ◌∙◌, arith, map}
+use Rattle.std.proofs.Common.{◌≡◌, ◌<◌, ℕ, false, cond, List, [], ◌∷◌, length, drop, get_or, Some, None, refl, ap, ◌∙◌, arith}
 use Rattle.std.specs.Prelude.{Vec}
 use Rattle.std.specs.Str.{bytes_eq}
 use Rattle.std.specs.declared.alloc.Global.{Global}
-use Rattle.glsl_tree.specs.Token.{PlainToken, plain, plain_tokens}
+use Rattle.glsl_tree.specs.Token.{plain_tokens}
 use Rattle.glsl_tree.specs.declared.token.Token.{Token}
-use Rattle.glsl_preproc.specs.Replacement.{argument_of, argument_or, substituted, at_line}
+use Rattle.glsl_preproc.specs.Replacement.{argument_of}
 use Rattle.glsl_preproc.specs.Views.{texts, lists}
 use Rattle.glsl_preproc.proofs.Items.{first_and_rest, no_items}
 

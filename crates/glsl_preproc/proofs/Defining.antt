@@ -1,17 +1,16 @@
 -- What `#define` and `#undef` do.
-use Rattle.std.proofs.Common.{◌≡◌, ◌<◌, ◌≤◌, ◌+◌, ◌++◌, ℕ, Bool, true, false, not, cond, ◌&&◌, List, [], ◌∷◌, length, drop, get_or, map, Option, Some, None, refl, sym, ap, ◌∙◌, arith}
+use Rattle.std.proofs.Common.{◌≡◌, ◌<◌, ◌≤◌, ◌+◌, ◌++◌, ℕ, Bool, true, false, not, cond, ◌&&◌, List, [], ◌∷◌, length, drop, get_or, Option, Some, None, refl, sym, ap, ◌∙◌, arith}
 use Rattle.std.proofs.lemmas.Bool.{cond-true, cond-false}
 use Rattle.std.specs.List.{filter, list_any}
 use Rattle.std.specs.Str.{bytes_eq}
 use Rattle.glsl_tree.specs.Token.{PlainToken, plain, plain_tokens}
 use Rattle.glsl_tree.specs.declared.token.Token.{Token}
-use Rattle.glsl_preproc.specs.Macros.{PlainMacro, find_macro, same_macro, is_name_token}
+use Rattle.glsl_preproc.specs.Macros.{PlainMacro, same_macro, is_name_token}
 use Rattle.glsl_preproc.specs.Replacement.{closes, is_comma}
 use Rattle.glsl_preproc.specs.Directives.{defined_again, parameters_from}
 use Rattle.glsl_preproc.specs.Views.{plain_macro, plain_macros}
 use Rattle.glsl_preproc.specs.DirectiveViews.{standing}
 use Rattle.glsl_preproc.specs.declared.macros.Macro.{Macro}
-use Rattle.glsl_preproc.specs.declared.directives.Standing.{Standing}
 use Rattle.glsl_preproc.specs.declared.directives.Standing.TheVariants.{New, Same, Other}
 
 other_new : (b : Bool) → New ≡ cond b Same Other → ⊥

@@ -1,6 +1,5 @@
 -- Expressions, one operand at a time.
 use Rattle.std.proofs.Common.{◌≡◌, ◌<◌, ◌+◌, ℕ, ℤ, zero, suc, Bool, true, false, cond, List, [], ◌∷◌, length, drop, get_or, Option, Some, None, refl, sym, ap, ◌∙◌, arith, codes}
-use Rattle.std.proofs.lemmas.Bool.{cond-true, cond-false}
 use Rattle.std.proofs.lemmas.List.{drop-map}
 use Rattle.glsl_tree.specs.Token.{PlainToken, plain, plain_tokens}
 use Rattle.glsl_tree.specs.declared.token.Token.{Token}

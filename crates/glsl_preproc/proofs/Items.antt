@@ -1,9 +1,7 @@
 -- The first item of a list, and the others.
-use Rattle.std.proofs.Common.{◌≡◌, ◌<◌, ◌≤◌, ℕ, List, [], ◌∷◌, length, drop, get_or, map, refl, sym, ap, ◌∙◌, arith}
+use Rattle.std.proofs.Common.{◌≡◌, ◌<◌, ◌≤◌, List, [], ◌∷◌, length, drop, get_or, refl, sym, ap, ◌∙◌, arith}
 use Rattle.std.proofs.lemmas.Bool.{eqb-true, eqb-false}
 use Rattle.std.proofs.Common.{eqb, Bool, true, false}
-use Rattle.glsl_tree.specs.Token.{PlainToken, plain, plain_tokens}
-use Rattle.glsl_tree.specs.declared.token.Token.{Token}
 
 pub first_and_rest : {X : Type 0} (xs : List X) (x : X) → 0 < length xs → x ≡ get_or xs 0 x → xs ≡ x ∷ drop 1 xs
 first_and_rest [] x h e = absurd (omega arith)

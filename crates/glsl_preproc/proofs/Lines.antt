@@ -1,5 +1,5 @@
 -- The reader's steps, and the lines of a source.
-use Rattle.std.proofs.Common.{◌≡◌, ◌<◌, ◌≤◌, ◌+◌, ◌++◌, ℕ, zero, suc, Bool, true, false, not, ◌&&◌, eqb, cond, List, [], ◌∷◌, length, take, drop, get_or, reverse, Option, Some, None, Result, Ok, Err, refl, sym, ap, subst, ◌∙◌, arith, inl, inr, ◌⊎◌}
+use Rattle.std.proofs.Common.{◌≡◌, ◌<◌, ◌≤◌, ◌+◌, ◌++◌, ℕ, Bool, true, false, not, ◌&&◌, eqb, cond, List, [], ◌∷◌, length, take, drop, get_or, reverse, Option, Some, None, Err, refl, sym, ap, subst, ◌∙◌, arith, inl, inr, ◌⊎◌}
 use Rattle.std.proofs.lemmas.Bool.{cond-true, cond-false}
 use Rattle.std.proofs.lemmas.List.{reverse-append, drop_more, take_more, take_all, map_push, drop-drop, get_or-drop}
 use Rattle.glsl_preproc.proofs.Ways.{two_ways}
@@ -9,7 +9,7 @@ use Rattle.glsl_preproc.specs.Macros.{PlainMacro}
 use Rattle.glsl_preproc.specs.Replacement.{Outcome, End, Whole, Failed, Deeper, ended, expanded}
 use Rattle.glsl_preproc.specs.Conditions.{Judged, Yes, No, Fails, Unknown, condition}
 use Rattle.glsl_preproc.specs.Directives.{kind_of, is_hash_token, after_define, after_undef, asked_defined, is_version, is_extension, are_line_numbers}
-use Rattle.glsl_preproc.specs.Expansion.{State, Step, Next, Stop, failing, unknown, flushed, flushed_by, and_then, with_macros, unless, opened, opened_if, opened_ifdef, with_part, elif_judged, elif_of, elif_step, other_part, else_step, endif_step, line_step, directive_step, acting, directive, failing_hash, behind_name, stray_hash, before_hash, skipping_inner, skipping_outer, skipping, text_step, not_fresh, read_step, skipped_step, line_of, is_read, outermost, ended_in, outcome_of, finished, is_line_end, lines_from, at_start, expansion}
+use Rattle.glsl_preproc.specs.Expansion.{State, Step, Next, Stop, failing, unknown, flushed, flushed_by, and_then, with_macros, unless, opened_if, opened_ifdef, with_part, elif_judged, elif_of, elif_step, other_part, else_step, endif_step, line_step, directive_step, acting, directive, failing_hash, behind_name, stray_hash, before_hash, skipping_inner, skipping_outer, skipping, text_step, not_fresh, read_step, skipped_step, line_of, is_read, outermost, ended_in, outcome_of, finished, is_line_end, lines_from, at_start, expansion}
 use Rattle.glsl_preproc.specs.ReaderViews.{step_tokens, Steps, Finishes, Answers}
 use Rattle.glsl_preproc.specs.declared.conditionals.Part.{Part}
 use Rattle.glsl_preproc.specs.declared.conditionals.Part.TheVariants.{Taken, Waiting, Passed}

@@ -1,5 +1,5 @@
 -- Two lists compared from the front.
-use Rattle.std.proofs.Common.{◌≡◌, ◌<◌, ℕ, Bool, true, false, ◌&&◌, eqb, List, [], ◌∷◌, length, drop, get_or, refl, sym, ap, ◌∙◌, arith, map}
+use Rattle.std.proofs.Common.{◌≡◌, ◌<◌, ℕ, false, ◌&&◌, eqb, List, [], ◌∷◌, length, drop, get_or, refl, sym, arith}
 use Rattle.std.proofs.lemmas.Bool.{ne_eqb}
 use Rattle.std.specs.Prelude.{Vec}
 use Rattle.std.specs.Str.{bytes_eq}
@@ -8,7 +8,7 @@ use Rattle.glsl_tree.specs.Token.{plain, plain_tokens}
 use Rattle.glsl_tree.specs.declared.token.Token.{Token}
 use Rattle.glsl_preproc.specs.Macros.{same_token, same_body, same_names}
 use Rattle.glsl_preproc.specs.Views.{texts}
-use Rattle.glsl_preproc.proofs.Items.{first_and_rest, no_items}
+use Rattle.glsl_preproc.proofs.Items.{first_and_rest}
 
 pub body_first : (xs ys : List Token) (x y : Token) → 0 < length xs → 0 < length ys → x ≡ get_or xs 0 x → y ≡ get_or ys 0 y
     → same_body (plain_tokens xs) (plain_tokens ys) ≡ (same_token (plain x) (plain y) && same_body (plain_tokens (drop 1 xs)) (plain_tokens (drop 1 ys)))

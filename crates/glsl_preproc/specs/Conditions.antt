@@ -1,12 +1,11 @@
 -- The expression of an `#if` (GLSL ES 1.00.17 section 3.4).
-use Rattle.std.specs.Prelude.{ℕ, zero, suc, ◌+◌, ◌==◌, ℤ, pos, Bool, true, false, not, ◌&&◌, ◌||◌, if◌then◌else◌, List, [], ◌∷◌, ◌++◌, length, drop, codes, Option, Some, None}
-use Rattle.std.specs.Str.{bytes_eq}
+use Rattle.std.specs.Prelude.{ℕ, zero, suc, ◌+◌, ◌==◌, ℤ, pos, Bool, false, ◌&&◌, if◌then◌else◌, List, [], ◌∷◌, ◌++◌, length, drop, codes, Option, Some, None}
 use Rattle.glsl_tree.specs.Token.{PlainToken}
 use Rattle.glsl_tree.specs.Spellings.{int_of}
 use Rattle.glsl_tree.specs.declared.token.Class.{Class}
 use Rattle.glsl_tree.specs.declared.token.Class.TheVariants.{Identifier, Keyword, Int}
 use Rattle.glsl_preproc.specs.Macros.{PlainMacro, is_text, is_name_token, is_defined, number_token}
-use Rattle.glsl_preproc.specs.Replacement.{Outcome, End, Whole, Failed, Deeper, opens, closes, expanded}
+use Rattle.glsl_preproc.specs.Replacement.{Outcome, Whole, Failed, Deeper, opens, closes, expanded}
 use Rattle.glsl_preproc.specs.Values.{fitting, applied, negated, complemented, inverted, operator_of, level_of, is_zero}
 use Rattle.glsl_preproc.specs.declared.operators.Operator.{Operator}
 

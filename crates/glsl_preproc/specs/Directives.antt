@@ -1,12 +1,12 @@
 -- Directives (GLSL ES 1.00.17 section 3.4).
-use Rattle.std.specs.Prelude.{ℕ, ◌+◌, ◌==◌, Bool, true, false, not, ◌&&◌, ◌||◌, if◌then◌else◌, List, [], ◌∷◌, ◌++◌, length, drop, codes, Option, Some, None, is_some}
+use Rattle.std.specs.Prelude.{ℕ, ◌+◌, Bool, true, false, not, ◌&&◌, ◌||◌, if◌then◌else◌, List, [], ◌∷◌, ◌++◌, drop, codes, Option, Some, None}
 use Rattle.std.specs.List.{list_any, filter}
 use Rattle.std.specs.Str.{bytes_eq}
 use Rattle.glsl_tree.specs.Token.{PlainToken}
 use Rattle.glsl_tree.specs.declared.token.Class.{Class}
 use Rattle.glsl_tree.specs.declared.token.Class.TheVariants.{Int, Hash, Params}
 use Rattle.glsl_preproc.specs.Macros.{PlainMacro, is_text, is_name_token, is_reserved, is_defined, find_macro, same_macro}
-use Rattle.glsl_preproc.specs.Replacement.{Outcome, End, Whole, Failed, Deeper, opens, closes, is_comma, expanded}
+use Rattle.glsl_preproc.specs.Replacement.{closes, is_comma}
 use Rattle.glsl_preproc.specs.declared.kinds.Kind.{Kind}
 use Rattle.glsl_preproc.specs.declared.kinds.Kind.TheVariants.{Empty, Define, Undef, If, Ifdef, Ifndef, Elif, Else, Endif, Error, Pragma, Extension, Version, Line, Unknown}
 

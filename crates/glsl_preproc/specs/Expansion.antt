@@ -1,6 +1,5 @@
 -- The expansion of a shader's tokens (GLSL ES 1.00.17 section 3.4).
-use Rattle.std.specs.Prelude.{◌≡◌, ◌<◌, ◌≤◌, ℕ, zero, suc, ◌+◌, ◌-◌, ◌==◌, Bool, true, false, not, ◌&&◌, ◌||◌, if◌then◌else◌, List, [], ◌∷◌, ◌++◌, length, Option, Some, None}
-use Rattle.std.specs.List.{prefix_len, list_any}
+use Rattle.std.specs.Prelude.{◌≡◌, ℕ, ◌+◌, ◌-◌, ◌==◌, Bool, true, false, not, ◌&&◌, if◌then◌else◌, List, [], ◌∷◌, ◌++◌, Option, Some, None}
 use Rattle.glsl_tree.specs.Token.{PlainToken}
 use Rattle.glsl_tree.specs.declared.token.Class.{Class}
 use Rattle.glsl_tree.specs.declared.token.Class.TheVariants.{NewLine}

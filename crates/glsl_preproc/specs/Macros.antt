@@ -1,6 +1,6 @@
 -- Macros (GLSL ES 1.00.17 section 3.4).
-use Rattle.std.specs.Prelude.{ℕ, ◌==◌, Bool, true, false, not, ◌&&◌, ◌||◌, if◌then◌else◌, List, [], ◌∷◌, ◌++◌, codes, Option, Some, None, is_some}
-use Rattle.std.specs.List.{find, filter, list_any}
+use Rattle.std.specs.Prelude.{ℕ, ◌==◌, Bool, true, false, ◌&&◌, ◌||◌, List, [], ◌∷◌, codes, Option, Some, None, is_some}
+use Rattle.std.specs.List.{find}
 use Rattle.std.specs.Str.{bytes_eq}
 use Rattle.glsl_tree.specs.Token.{PlainToken}
 use Rattle.glsl_tree.specs.SourceTokens.{is_word}

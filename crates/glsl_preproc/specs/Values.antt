@@ -1,5 +1,5 @@
 -- The values of an `#if` (GLSL ES 1.00.17 section 3.4): whole numbers of 32 bits with sign, and none where evaluation fails.
-use Rattle.std.specs.Prelude.{ℕ, ℤ, pos, negsuc, ◌+ℤ◌, ◌-ℤ◌, ◌*ℤ◌, neg_ℤ, ◌^◌, ◌==◌, Bool, true, false, not, if◌then◌else◌, nat_lt, Option, Some, None, int_lt, int_le, int_div, int_rem, bit_and, bit_or, bit_xor, List, [], ◌∷◌}
+use Rattle.std.specs.Prelude.{ℕ, ℤ, pos, negsuc, ◌+ℤ◌, ◌-ℤ◌, ◌*ℤ◌, neg_ℤ, ◌^◌, ◌==◌, Bool, not, if◌then◌else◌, nat_lt, Option, Some, None, int_lt, int_le, int_div, int_rem, bit_and, bit_or, bit_xor, List, [], ◌∷◌}
 use Rattle.std.specs.Int.{int_shr, cast_signed, cast_unsigned}
 use Rattle.std.specs.Ordering.{int_eq}
 use mir.Syntax.{w32}

@@ -1,4 +1,4 @@
-use Rattle.std.proofs.Common.{◌≡◌, ◌+◌, ◌-◌, [], length, drop, sym, ap, ◌∙◌, arith, Some}
+use Rattle.std.proofs.Common.{◌≡◌, ◌+◌, ◌-◌, length, sym, ◌∙◌, arith, Some}
 use Rattle.glsl_tree.specs.Token.{plain_tokens}
 use Rattle.glsl_preproc.specs.Replacement.{arguments_from}
 use Rattle.glsl_preproc.specs.Views.{lists}

@@ -1,9 +1,9 @@
-use Rattle.std.proofs.Common.{◌≡◌, ◌<◌, ◌-◌, ◌+◌, ◌∷◌, length, drop, Some, None, true, false, sym, ap, ◌∙◌, arith}
+use Rattle.std.proofs.Common.{◌≡◌, ◌-◌, ◌+◌, drop, Some, None, true, false, sym, ap, ◌∙◌, arith}
 use Rattle.std.proofs.lemmas.Bool.{false≢true}
-use Rattle.glsl_tree.specs.Token.{plain, plain_tokens}
+use Rattle.glsl_tree.specs.Token.{plain_tokens}
 use Rattle.glsl_preproc.specs.Values.{applied}
-use Rattle.glsl_preproc.specs.Conditions.{Read, Wrong, TooDeep, in_brackets, behind_sign, chain_from, chain_behind, expression_at, operand_within}
-use Rattle.glsl_preproc.specs.ConditionViews.{parsed_of, signed}
+use Rattle.glsl_preproc.specs.Conditions.{in_brackets, behind_sign, chain_from, chain_behind, expression_at, operand_within}
+use Rattle.glsl_preproc.specs.ConditionViews.{signed}
 use Rattle.glsl_preproc.proofs.Items.{some_items, none_left}
 use Rattle.glsl_preproc.proofs.Expressions.{expression_zero, expression_more, chain_skip, chain_at, chain_end, chained, operand_zero, operand_first, operand_none}
 use Rattle.glsl_preproc.proofs.conditions.+expression.Goals as goal

@@ -1,4 +1,4 @@
-use Rattle.std.proofs.Common.{ℕ, ◌+◌, ◌*◌, ◌-◌, ◌≡◌, length}
+use Rattle.std.proofs.Common.{◌+◌, ◌*◌, ◌-◌, ◌≡◌, length}
 use Rattle.glsl_tree.specs.Token.{plain_tokens}
 use Rattle.glsl_preproc.specs.Conditions.{chain_from, expression_at, operand_within}
 use Rattle.glsl_preproc.proofs.conditions.+expression.Given as goal

@@ -1,9 +1,8 @@
-use Rattle.std.proofs.Common.{◌≡◌, ◌++◌, [], ◌∷◌, length, drop, sym, ap, ◌∙◌}
+use Rattle.std.proofs.Common.{◌++◌, [], ◌∷◌, drop, sym, ap, ◌∙◌}
 use Rattle.glsl_tree.specs.Token.{plain, plain_tokens}
 use Rattle.glsl_preproc.specs.Macros.{is_defined}
 use Rattle.glsl_preproc.specs.Conditions.{Other, Of, Broken, asked_at, answer_token, answered_from}
 use Rattle.glsl_preproc.specs.Views.{plain_macros}
-use Rattle.glsl_preproc.specs.ConditionViews.{asked_of}
 use Rattle.glsl_preproc.proofs.Items.{some_items, none_left}
 use Rattle.glsl_preproc.proofs.Answering.{answered_at, answered_skip, answered_end}
 use Rattle.glsl_preproc.proofs.conditions.answered.Goals as goal

@@ -1,9 +1,9 @@
-use Rattle.std.proofs.Common.{◌≡◌, ◌&&◌, Some, not, sym, ap, ◌∙◌}
+use Rattle.std.proofs.Common.{◌&&◌, Some, not, sym, ap, ◌∙◌}
 use Rattle.std.proofs.lemmas.Bool.{cond-true}
 use Rattle.std.specs.List.{filter}
 use Rattle.std.specs.Str.{bytes_eq}
-use Rattle.glsl_tree.specs.Token.{plain, plain_tokens}
-use Rattle.glsl_preproc.specs.Macros.{is_name_token, is_reserved}
+use Rattle.glsl_tree.specs.Token.{plain_tokens}
+use Rattle.glsl_preproc.specs.Macros.{is_reserved}
 use Rattle.glsl_preproc.specs.Directives.{after_undef}
 use Rattle.glsl_preproc.specs.Views.{plain_macros}
 use Rattle.glsl_preproc.proofs.Items.{one_item}

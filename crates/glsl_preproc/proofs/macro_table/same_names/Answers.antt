@@ -1,4 +1,4 @@
-use Rattle.std.proofs.Common.{◌≡◌, ◌<◌, ◌&&◌, length, drop, sym, ap, ◌∙◌}
+use Rattle.std.proofs.Common.{◌&&◌, drop, sym, ap, ◌∙◌}
 use Rattle.std.specs.Str.{bytes_eq}
 use Rattle.glsl_preproc.specs.Macros.{same_names}
 use Rattle.glsl_preproc.specs.Views.{texts}

@@ -1,8 +1,7 @@
-use Rattle.std.proofs.Common.{◌≡◌, ◌<◌, ◌≤◌, ◌-◌, ◌+◌, ◌++◌, ℕ, List, [], ◌∷◌, Result, Ok, Err, length, drop, refl, sym, ap, subst, ◌∙◌, arith}
+use Rattle.std.proofs.Common.{◌≤◌, ◌-◌, ◌++◌, List, [], ◌∷◌, Result, Err, length, drop, refl, sym, ap, subst, ◌∙◌, arith}
 use Rattle.std.proofs.lemmas.List.{length-map}
 use Rattle.glsl_tree.specs.Token.{PlainToken, plain, plain_tokens}
-use Rattle.glsl_preproc.specs.Macros.{PlainMacro}
-use Rattle.glsl_preproc.specs.Replacement.{Outcome, End, Whole, ended, Kept, LineNumber, Object, Call, WrongCount, use_of, line_number, list_from, expanded, object_outcome, call_outcome, expanded_arguments}
+use Rattle.glsl_preproc.specs.Replacement.{Outcome, End, Kept, LineNumber, Object, Call, WrongCount, use_of, line_number, list_from, expanded, object_outcome, call_outcome, expanded_arguments}
 use Rattle.glsl_preproc.specs.Views.{plain_macro, plain_macros, texts, lists, parameters_of, use_view, Expands, ExpandsArguments, argument_error}
 use Rattle.glsl_preproc.specs.declared.errors.Pre.{Pre}
 use Rattle.glsl_preproc.proofs.Items.{some_items, none_left, at_first, at_none}

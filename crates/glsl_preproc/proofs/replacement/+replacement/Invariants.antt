@@ -1,4 +1,4 @@
-use Rattle.std.proofs.Common.{ℕ, ◌+◌, ◌*◌, ◌≡◌, ◌≤◌, [], length}
+use Rattle.std.proofs.Common.{◌+◌, ◌*◌, ◌≡◌, ◌≤◌, [], length}
 use Rattle.glsl_tree.specs.Token.{plain_tokens}
 use Rattle.glsl_preproc.specs.Replacement.{expanded, list_from, expanded_arguments}
 use Rattle.glsl_preproc.specs.Views.{plain_macros, texts, lists}

@@ -1,4 +1,4 @@
-use Rattle.std.proofs.Common.{◌≡◌, ◌++◌, [], length, drop, sym, ap, ◌∙◌, append_assoc}
+use Rattle.std.proofs.Common.{◌++◌, drop, sym, ap, ◌∙◌, append_assoc}
 use Rattle.std.proofs.lemmas.List.{append-nil}
 use Rattle.glsl_tree.specs.Token.{plain, plain_tokens}
 use Rattle.glsl_preproc.specs.Replacement.{substituted, argument_of, argument_or, at_line}

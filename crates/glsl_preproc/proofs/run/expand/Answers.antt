@@ -1,10 +1,9 @@
-use Rattle.std.proofs.Common.{◌≡◌, ◌<◌, ◌≤◌, ◌-◌, ◌+◌, ℕ, List, [], Ok, Err, length, take, drop, sym, ap, subst, ◌∙◌, arith}
+use Rattle.std.proofs.Common.{◌≡◌, ◌<◌, ◌≤◌, ◌-◌, ◌+◌, List, [], Err, length, take, drop, sym, ap, subst, ◌∙◌, arith}
 use Rattle.std.proofs.lemmas.List.{length-map}
 use Rattle.glsl_tree.specs.Token.{plain, plain_tokens}
-use Rattle.glsl_preproc.specs.Replacement.{Outcome, Whole, ended}
-use Rattle.glsl_preproc.specs.Expansion.{lines_from, line_of, finished, expansion}
+use Rattle.glsl_preproc.specs.Expansion.{lines_from, line_of, finished}
 use Rattle.glsl_tree.specs.declared.token.Token.{Token}
-use Rattle.glsl_preproc.specs.ReaderViews.{state_of, Steps, Finishes}
+use Rattle.glsl_preproc.specs.ReaderViews.{state_of, Steps}
 use Rattle.glsl_preproc.proofs.Items.{some_items, none_left}
 use Rattle.glsl_preproc.proofs.Lines.{at_begin, place_more, line_more, line_done, line_fails, last_line, err_last, ok_last, err_answer}
 use Rattle.glsl_preproc.proofs.run.expand.Goals as goal

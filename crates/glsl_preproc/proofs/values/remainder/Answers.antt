@@ -1,7 +1,7 @@
-use Rattle.std.proofs.Common.{◌≡◌, sym, ap, subst, ◌∙◌, Option, Some, pos, negsuc, ℤ, int_rem}
+use Rattle.std.proofs.Common.{sym, ap, ◌∙◌, pos, negsuc}
 use Rattle.std.proofs.lemmas.Int.{to_z-of_z}
 use mir.Syntax.{w32}
-use mir.Val.{of_z, to_z}
+use mir.Val.{of_z}
 use Rattle.glsl_preproc.specs.Values.{remainder}
 use Rattle.glsl_preproc.proofs.Fitting.{remainder_zero, remainder_other, remainder_minus, rem_fits, from_bits, zero_fits, minus_fits}
 use Rattle.glsl_preproc.proofs.values.remainder.Goals as goal

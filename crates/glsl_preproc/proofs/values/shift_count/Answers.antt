@@ -1,8 +1,5 @@
-use Rattle.std.proofs.Common.{◌≡◌, sym, ap, ◌∙◌, Some, nat_abs}
+use Rattle.std.proofs.Common.{sym}
 use Rattle.std.proofs.lemmas.Int.{to_z-of_z}
-use mir.Syntax.{w32}
-use mir.Val.{of_z, to_z}
-use Rattle.glsl_preproc.specs.Values.{shift_count}
 use Rattle.glsl_preproc.proofs.Fitting.{count_negative, count_large, count_is}
 use Rattle.glsl_preproc.proofs.values.shift_count.Goals as goal
 

@@ -1,4 +1,4 @@
-use Rattle.std.proofs.Common.{◌≡◌, ◌*ℤ◌, ◌^◌, ℤ, pos, sym, ap, subst, ◌∙◌, arith}
+use Rattle.std.proofs.Common.{◌*ℤ◌, ◌^◌, ℤ, pos, subst}
 use Rattle.std.specs.Result.{OkIff}
 use Rattle.std.specs.Int.RustNames.{FitsSigned}
 use mir.Syntax.{w32}

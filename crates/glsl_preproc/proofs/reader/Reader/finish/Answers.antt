@@ -1,4 +1,4 @@
-use Rattle.std.proofs.Common.{◌≡◌, ◌<◌, reverse, length, sym, ap, ◌∙◌, arith}
+use Rattle.std.proofs.Common.{◌<◌, reverse, length, sym, ap, arith}
 use Rattle.glsl_preproc.specs.ReaderViews.{state_of}
 use Rattle.glsl_preproc.proofs.Lines.{finished_failed, first_or}
 use Rattle.glsl_preproc.proofs.reader.Reader.finish.Goals as goal
