@@ -22,4 +22,6 @@ pub use operation::{
 pub use write::{write_command, write_start};
 
 #[cfg(test)]
+mod decoder_tests;
+#[cfg(test)]
 mod tests;
