@@ -46,7 +46,7 @@ pub words_more : (bytes into : List ℕ) (i word : ℕ) → i < length into → 
 words_more bytes into i word in_range e p =
     let left : drop 4 (drop (4 * i) bytes) ≡ drop (4 * (i + 1)) bytes = drop-drop 4 (4 * i) bytes ∙ ap (λ k. drop k bytes) (omega arith) in
     let front : (flat_map le32 (take i into) ++ le32 word) ++ drop (4 * (i + 1)) bytes ≡ flat_map le32 (take (i + 1) (set into i word)) ++ drop (4 * (i + 1)) bytes =
-        ap (λ l. l ++ drop (4 * (i + 1)) bytes) (sym (words-suc into i word in_range)) in
+    ap (λ l. l ++ drop (4 * (i + 1)) bytes) (sym (words-suc into i word in_range)) in
     e ∙ ap (λ l. flat_map le32 (take i into) ++ l) (p ∙ ap (λ l. le32 word ++ l) left) ∙ sym (append_assoc (flat_map le32 (take i into)) (le32 word) (drop (4 * (i + 1)) bytes)) ∙ front
 
 -- a word, and then a part
@@ -60,7 +60,7 @@ pub two_front : (bytes part : List ℕ) (a b size : ℕ) → bytes ≡ le32 a ++
     → drop 8 bytes ≡ part ++ drop size (drop 8 bytes) → bytes ≡ (le32 a ++ (le32 b ++ part)) ++ drop (8 + size) bytes
 two_front bytes part a b size p q r =
     let inner : drop 4 bytes ≡ (le32 b ++ part) ++ drop (4 + size) (drop 4 bytes) =
-        one_front (drop 4 bytes) part b size q (drop-drop 4 4 bytes ∙ r ∙ ap (λ l. part ++ drop size l) (sym (drop-drop 4 4 bytes))) in
+    one_front (drop 4 bytes) part b size q (drop-drop 4 4 bytes ∙ r ∙ ap (λ l. part ++ drop size l) (sym (drop-drop 4 4 bytes))) in
     let wide : 4 + (4 + size) ≡ 8 + size = omega arith in
     rw (← wide) (one_front bytes (le32 b ++ part) a (4 + size) p inner)
 

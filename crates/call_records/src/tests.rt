@@ -1,3 +1,5 @@
+ghost use Rattle.call_records.specs.Records.{Fits};
+
 use crate::{
     Call, Fill, New, ReadEnd, RecordBuf, Reply, Step, Value, read_call, read_reply, read_start,
     write_call, write_reply,
@@ -169,24 +171,26 @@ fn each_kind_of_reply_is_written(rt: HostRuntime) -> Result<(), Fail> {
     Ok(())
 }
 
+/// Whether a call's bytes are written, and a front of them to a sink of 7 bytes.
+fn writes(rt: &HostRuntime, call: &Call<'_>, bytes: &[u8]) -> Result<bool, AllocError>
+    requires { Fits call.now }
+{
+    let mut out = MemSink::new(vec![in rt.alloc(); 0; 64]?, Vec::new(rt.alloc()));
+    let mut full = MemSink::new(vec![in rt.alloc(); 0; 7]?, Vec::new(rt.alloc()));
+    let whole = write_call(call, &mut out).is_ok() && out.bytes() == bytes;
+    let front = write_call(call, &mut full).is_err() && full.bytes().len() == 7;
+    Ok(whole && front && bytes.starts_with(full.bytes()))
+}
+
 #[test]
+#[tactic(auto, using(crate::proofs::Lengths::lengths))]
 fn each_kind_of_call_is_written(rt: HostRuntime) -> Result<(), Fail> {
     let tail = [0xAA, 0xBB];
     let data = Call::BufferData(0x8892, 0x88E4, Fill::Bytes(&tail));
-    let cases: [(Call, &[u8]); 4] = [
-        (Call::Create(New::Buffer), &SESSION[8..16]),
-        (Call::BindBuffer(0x8892, 1), &SESSION[16..32]),
-        (data, &SESSION[32..50]),
-        (Call::GetError, &SESSION[50..58]),
-    ];
-    for (call, bytes) in cases {
-        let mut out = MemSink::new(vec![in rt.alloc(); 0; 64]?, Vec::new(rt.alloc()));
-        assert_eq!(rt; write_call(&call, &mut out).is_ok(), true);
-        assert!(rt; out.bytes() == bytes, "{call:?}");
-        let mut full = MemSink::new(vec![in rt.alloc(); 0; 7]?, Vec::new(rt.alloc()));
-        assert_eq!(rt; write_call(&call, &mut full).is_err(), true);
-        assert!(rt; full.bytes() == &bytes[..7], "{call:?}");
-    }
+    assert!(rt; writes(&rt, &Call::Create(New::Buffer), &SESSION[8..16])?);
+    assert!(rt; writes(&rt, &Call::BindBuffer(0x8892, 1), &SESSION[16..32])?);
+    assert!(rt; writes(&rt, &data, &SESSION[32..50])?);
+    assert!(rt; writes(&rt, &Call::GetError, &SESSION[50..58])?);
     let fail = [1u64];
     let mut out = MemSink::new(vec![in rt.alloc(); 0; 64]?, fail.to_vec(rt.alloc())?);
     assert_eq!(rt; write_call(&data, &mut out).is_err(), true);
@@ -228,21 +232,35 @@ fn each_kind_of_reply_is_read(rt: HostRuntime) -> Result<(), Fail> {
         let mut more = bytes.to_vec(rt.alloc())?;
         more.push(9)?;
         let read = read_reply(&more);
-        assert!(rt; read == Some((Reply { raised, value }, bytes.len())), "{value:?}");
+        assert!(rt;
+            read == Some((Reply { raised, value }, bytes.len())),
+            "{value:?}"
+        );
         for cut in 0..bytes.len() {
-            assert!(rt; read_reply(&bytes[..cut]).is_none(), "{value:?} cut at {cut}");
+            assert!(rt;
+                read_reply(&bytes[..cut]).is_none(),
+                "{value:?} cut at {cut}"
+            );
         }
     }
     let mut long = [0u8; 300];
-    for (tag, at, most) in [(2, 8, 16), (3, 8, 256), (4, 16, 256)] {
-        long[4] = tag;
-        long[8..10].copy_from_slice(&[0, 0]);
-        for (count, is_some) in [(most, true), (most + 1, false)] {
-            let word = u16::to_le_bytes(count);
-            long[at..at + 2].copy_from_slice(&word);
-            assert_eq!(rt; read_reply(&long).is_some(), is_some, "tag {tag}, {count}");
-        }
-    }
-    assert!(rt; read_reply(&[0, 0, 0, 0, 5, 0, 0, 0, 0, 0, 0, 0]).is_none());
+    long[4] = 2;
+    long[8] = 16;
+    assert!(rt; read_reply(&long).is_some());
+    long[8] = 17;
+    assert!(rt; read_reply(&long).is_none());
+    long[4] = 3;
+    long[8] = 0;
+    long[9] = 1;
+    assert!(rt; read_reply(&long).is_some());
+    long[8] = 1;
+    assert!(rt; read_reply(&long).is_none());
+    long[4] = 4;
+    long[17] = 1;
+    assert!(rt; read_reply(&long).is_some());
+    long[16] = 1;
+    assert!(rt; read_reply(&long).is_none());
+    long[4] = 5;
+    assert!(rt; read_reply(&long).is_none());
     Ok(())
 }
