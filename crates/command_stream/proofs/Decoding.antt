@@ -1,5 +1,5 @@
 -- The commands of a stream are the same however it was cut into pieces.
-use Rattle.std.proofs.Common.{◌≡◌, ℕ, ◌+◌, ◌-◌, ◌<◌, ◌≤◌, ◌^◌, Bool, false, true, List, [], ◌∷◌, ◌++◌, length, take, drop, map, Option, Some, None, refl, sym, ap, ◌∙◌, arith, inl, inr, option_to_list}
+use Rattle.std.proofs.Common.{◌≡◌, ℕ, ◌+◌, ◌<◌, ◌^◌, Bool, false, true, List, [], ◌∷◌, ◌++◌, length, take, map, Option, Some, None, refl, sym, ap, ◌∙◌, arith, inl, inr, option_to_list}
 use Rattle.std.proofs.lemmas.List.{append_cancel_left, length-take-le, append_assoc, append-nil, length-append}
 use Rattle.std.proofs.lemmas.List.Elements.{All-nil, All-cons, All-append, All-head, All-tail}
 use Rattle.std.proofs.lemmas.Grind.{flat_map-append}
@@ -9,9 +9,9 @@ use Rattle.gl_numbers.proofs.Bytes.{Same, le32-one}
 use Rattle.command_stream.specs.declared.command.Command.{Command}
 use Rattle.command_stream.specs.declared.command.Command.TheVariants.{MakeBuffer, DropBuffer, BindBuffer, BufferSize, BufferBytes}
 use Rattle.command_stream.specs.Commands.{op_of, body_of, command_spelling, stream_start, stream}
-use Rattle.command_stream.specs.Operations.{number_of, operation_numbered, allows, has_shape}
+use Rattle.command_stream.specs.Operations.{number_of, operation_numbered, has_shape}
 use Rattle.command_stream.specs.Plain.{Fits, plain}
-use Rattle.command_stream.specs.DecoderState.{DecoderState, IsPart, IsPartOfCommand, IsRefused, IsCounted, start_taken, HasBadStart, HasBadCommand, command_at}
+use Rattle.command_stream.specs.DecoderState.{DecoderState, IsPart, IsPartOfCommand, IsRefused, start_taken, HasBadStart, HasBadCommand, command_at}
 use Rattle.command_stream.specs.Decoding.{Takes, EndsAt, Decoded, found_spelling}
 use Rattle.command_stream.proofs.OneSpelling.{SameCommand, command_spelling-one, spelling-some, op-fits, same_fronts}
 use Rattle.command_stream.proofs.Pieces.{length-two, length-start, allows-within, number-fits}

@@ -1,5 +1,5 @@
 -- A decoder has one answer to a piece, and is one decoder afterwards.
-use Rattle.std.proofs.Common.{◌≡◌, ℕ, ◌+◌, ◌-◌, ◌<◌, ◌≤◌, ◌^◌, Bool, false, true, List, [], ◌++◌, length, take, drop, Option, Some, None, Result, Ok, Err, option_map, refl, sym, ap, ◌∙◌, arith, le_refl, inl, inr}
+use Rattle.std.proofs.Common.{◌≡◌, ℕ, ◌+◌, ◌<◌, ◌^◌, Bool, false, true, List, [], ◌++◌, length, take, drop, Option, Some, None, Result, Ok, Err, option_map, refl, sym, ap, ◌∙◌, arith, inl, inr}
 use Rattle.std.proofs.lemmas.List.{append_cancel_left, append_assoc, append-nil, length-append, length-drop, take-append-drop, take_all}
 use Rattle.std.proofs.lemmas.List.Elements.{All-nil}
 use Rattle.gl_numbers.specs.Bytes.{le32}
@@ -12,7 +12,7 @@ use Rattle.command_stream.specs.Operations.{number_of, operation_numbered, has_s
 use Rattle.command_stream.specs.declared.operation.Operation.{Operation}
 use Rattle.command_stream.specs.declared.operation.Operation.TheVariants as op
 use Rattle.command_stream.specs.Plain.{Fits, plain}
-use Rattle.command_stream.specs.DecoderState.{DecoderState, IsPart, IsPartOfCommand, IsRefused, start_taken, HasBadStart, HasBadCommand}
+use Rattle.command_stream.specs.DecoderState.{DecoderState, IsPart, IsPartOfCommand, IsRefused, start_taken, HasBadStart}
 use Rattle.command_stream.specs.Decoding.{Takes, Feeds}
 use Rattle.command_stream.proofs.OneSpelling.{SameCommand, command_spelling-one, same_fronts}
 use Rattle.command_stream.proofs.Pieces.{length-two, length-start, allows-within, number-fits}

@@ -1,4 +1,4 @@
-use Rattle.std.proofs.Common.{◌+◌, ◌≤◌, ℕ, length}
+use Rattle.std.proofs.Common.{◌+◌, ◌≤◌, length}
 use Rattle.command_stream.proofs.decoder_tests.count_equal.Given as goal
 
 abbrev pub invariant-loop-rest : goal.invariant-loop-rest
