@@ -1,5 +1,5 @@
 -- The commands of a stream are the same however it was cut into pieces.
-use Rattle.std.proofs.Common.{◌≡◌, ℕ, ◌+◌, ◌-◌, ◌<◌, ◌≤◌, ◌^◌, Bool, false, true, List, [], ◌∷◌, ◌++◌, length, take, drop, map, Option, Some, None, refl, sym, ap, ◌∙◌, arith, inl, inr, option_to_list}
+use Rattle.std.proofs.Common.{◌≡◌, ℕ, ◌+◌, ◌<◌, ◌^◌, Bool, false, true, List, [], ◌∷◌, ◌++◌, length, take, map, Option, Some, None, refl, sym, ap, ◌∙◌, arith, inl, inr, option_to_list}
 use Rattle.std.proofs.lemmas.List.{append_cancel_left, length-take-le, append_assoc, append-nil, length-append}
 use Rattle.std.proofs.lemmas.List.Elements.{All-nil, All-cons, All-append, All-head, All-tail}
 use Rattle.std.proofs.lemmas.Grind.{flat_map-append}
@@ -9,9 +9,9 @@ use Rattle.gl_numbers.proofs.Bytes.{Same, le32-one}
 use Rattle.command_stream.specs.declared.command.Command.{Command}
 use Rattle.command_stream.specs.declared.command.Command.TheVariants.{MakeBuffer, DropBuffer, BindBuffer, BufferSize, BufferBytes}
 use Rattle.command_stream.specs.Commands.{op_of, body_of, command_spelling, stream_start, stream}
-use Rattle.command_stream.specs.Operations.{number_of, operation_numbered, allows, has_shape}
+use Rattle.command_stream.specs.Operations.{number_of, operation_numbered, has_shape}
 use Rattle.command_stream.specs.Plain.{Fits, plain}
-use Rattle.command_stream.specs.DecoderState.{DecoderState, IsPart, IsPartOfCommand, IsRefused, IsCounted, start_taken, HasBadStart, HasBadCommand, command_at}
+use Rattle.command_stream.specs.DecoderState.{DecoderState, IsPart, IsPartOfCommand, IsRefused, start_taken, HasBadStart, HasBadCommand, command_at}
 use Rattle.command_stream.specs.Decoding.{Takes, EndsAt, Decoded, found_spelling}
 use Rattle.command_stream.proofs.OneSpelling.{SameCommand, command_spelling-one, spelling-some, op-fits, same_fronts}
 use Rattle.command_stream.proofs.Pieces.{length-two, length-start, allows-within, number-fits}
@@ -100,7 +100,7 @@ decoded-more all piece commands old new n found before taken =
     }
 
 -- a proper part of a command isn't the whole of one, nor more
-part-not-whole : (bytes rest : List ℕ) (c : Command) → IsPartOfCommand bytes → Fits c → bytes ≡ command_spelling c ++ rest → ⊥
+pub part-not-whole : (bytes rest : List ℕ) (c : Command) → IsPartOfCommand bytes → Fits c → bytes ≡ command_spelling c ++ rest → ⊥
 part-not-whole bytes rest c (inl short) fits e =
     let size : length bytes ≡ (8 + length (body_of c)) + length rest = ap length e ∙ length-append (command_spelling c) rest ∙ ap (λ n. n + length rest) (length-two (op_of c) (length (body_of c)) (body_of c)) in
     omega (arith, short, size)
@@ -124,7 +124,7 @@ shape-of (BufferSize target usage size) fits = refl
 shape-of (BufferBytes target offset tail) fits = grind (arith, fits.body)
 
 -- a command's header isn't refused
-whole-not-refused : (bytes rest : List ℕ) (c : Command) → IsRefused bytes → Fits c → bytes ≡ command_spelling c ++ rest → ⊥
+pub whole-not-refused : (bytes rest : List ℕ) (c : Command) → IsRefused bytes → Fits c → bytes ≡ command_spelling c ++ rest → ⊥
 whole-not-refused bytes rest c r fits e =
     let fits_body : length (body_of c) < 2 ^ 32 = omega (arith, fits.body) in
     let flat : command_spelling c ++ rest ≡ le32 (op_of c) ++ (le32 (length (body_of c)) ++ (body_of c ++ rest)) =
@@ -152,7 +152,7 @@ commands-and-part (c ∷ a) (d ∷ b) x y fits_a fits_b px py e =
     (ap (λ h. h ∷ map plain a) same.command ∙ ap (λ t. plain d ∷ t) more.0, more.1)
 
 -- what was taken up to a part of the header or of a command is of one list of commands
-parts-one : (a b : List Command) (s t : Bool) (x y : List ℕ) → All Fits a → All Fits b → (s ≡ false → a ≡ []) → (t ≡ false → b ≡ []) → IsPart s x → IsPart t y
+pub parts-one : (a b : List Command) (s t : Bool) (x y : List ℕ) → All Fits a → All Fits b → (s ≡ false → a ≡ []) → (t ≡ false → b ≡ []) → IsPart s x → IsPart t y
     → start_taken s ++ (flat_map command_spelling a ++ x) ≡ start_taken t ++ (flat_map command_spelling b ++ y) → (map plain a ≡ map plain b) × (s ≡ t) × (x ≡ y)
 parts-one a b true true x y fits_a fits_b early_a early_b px py e =
     let same : (map plain a ≡ map plain b) × (x ≡ y) = commands-and-part a b x y fits_a fits_b px py (append_cancel_left stream_start _ _ e) in
@@ -167,7 +167,7 @@ parts-one a b false true x y fits_a fits_b early_a early_b px py e =
     absurd (omega (arith, px, length-start, ap length bytes, length-append stream_start (flat_map command_spelling b ++ y)))
 
 -- a decoder's state of its parts
-abbrev state : Bool → List ℕ → ℕ → DecoderState
+abbrev pub state : Bool → List ℕ → ℕ → DecoderState
 state started begun taken = record { started = started; begun = begun; taken = taken }
 
 -- two decoders that have taken the same bytes have given the same commands, and are in one state

@@ -2,3 +2,4 @@ pub mod Allowed
 pub mod OneSpelling
 pub mod Pieces
 pub mod Decoding
+pub mod OneAnswer

@@ -1,5 +1,5 @@
 -- Bytes that were begun, and a piece behind them.
-use Rattle.std.proofs.Common.{◌≡◌, ℕ, ◌+◌, ◌-◌, ◌<◌, ◌≤◌, ◌^◌, List, [], ◌++◌, length, take, drop, Option, Some, None, Bool, true, false, refl, sym, ap, ◌∙◌, arith, append_assoc, length-append, length-drop, le_refl, lit<, inl, inr}
+use Rattle.std.proofs.Common.{◌≡◌, ℕ, ◌+◌, ◌-◌, ◌<◌, ◌≤◌, ◌^◌, List, [], ◌++◌, length, take, drop, Some, None, Bool, true, false, refl, sym, ap, ◌∙◌, arith, append_assoc, length-append, length-drop, le_refl, lit<, inl, inr}
 use Rattle.std.proofs.lemmas.List.{take-append-drop, take-append-le, take_all, length-take-le}
 use Rattle.std.proofs.Math.Seq.{take-append_seam, take-append-add, take-add}
 use Rattle.gl_numbers.specs.Bytes.{le32}
@@ -9,7 +9,7 @@ use Rattle.command_stream.specs.declared.operation.Operation.{Operation}
 use Rattle.command_stream.specs.declared.operation.Operation.TheVariants as op
 use Rattle.command_stream.specs.Operations.{number_of, allows}
 use Rattle.command_stream.specs.Commands.{stream_start}
-use Rattle.command_stream.specs.DecoderState.{IsPart, IsPartOfCommand, IsPartOfBody, IsCounted, start_taken, HasBadCommand}
+use Rattle.command_stream.specs.DecoderState.{IsPart, IsPartOfCommand, IsCounted, start_taken, HasBadCommand}
 use Rattle.command_stream.specs.Taking.{Judges, IsWhole, TakesIn}
 use Rattle.command_stream.specs.declared.taking.Taken.{Taken}
 use Rattle.command_stream.specs.declared.taking.Taken.TheVariants.{OtherStart, OtherCommand, Part, Whole}

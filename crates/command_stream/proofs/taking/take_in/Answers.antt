@@ -1,7 +1,6 @@
-use Rattle.std.proofs.Common.{◌≡◌, ℕ, ◌-◌, ◌≤◌, List, ◌++◌, take, drop, length, refl, sym, ap, ◌∙◌, arith}
+use Rattle.std.proofs.Common.{◌≡◌, ◌-◌, ◌≤◌, take, drop, length, ◌∙◌, arith}
 use Rattle.std.proofs.lemmas.List.{take_rest, length-drop}
-use Rattle.command_stream.specs.Commands.{stream_start}
-use Rattle.command_stream.proofs.Pieces.{taken-behind-start, behind-start, behind}
+use Rattle.command_stream.proofs.Pieces.{taken-behind-start, behind}
 use Rattle.command_stream.proofs.taking.take_in.Goals as goal
 
 pub returns-in-Whole : goal.returns-in-Whole

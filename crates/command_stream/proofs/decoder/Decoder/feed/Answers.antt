@@ -1,4 +1,4 @@
-use Rattle.std.proofs.Common.{◌≡◌, ℕ, ◌+◌, ◌≤◌, List, [], ◌++◌, take, drop, length, refl, sym, ap, ◌∙◌, inl, arith}
+use Rattle.std.proofs.Common.{◌≡◌, ◌++◌, take, drop, length, sym, ap, ◌∙◌, inl, arith}
 use Rattle.command_stream.specs.declared.taking.TheConstants.{COMMAND_MAX}
 use Rattle.command_stream.proofs.Pieces.{written-over, counted-part, counted-whole}
 use Rattle.command_stream.proofs.decoder.Decoder.feed.Goals as goal
