@@ -11,6 +11,8 @@ mod record_buf;
 mod replies;
 mod reply_reading;
 #[cfg(test)]
+mod reply_tests;
+#[cfg(test)]
 mod tests;
 mod writing;
 
