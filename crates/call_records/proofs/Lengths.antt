@@ -1,9 +1,14 @@
 -- How long spellings are.
-use Rattle.std.proofs.Common.{◌≡◌, ℕ, ◌+◌, length, length-append, arith, refl}
+use Rattle.std.proofs.Common.{◌≡◌, ℕ, ℤ, ◌+◌, length, length-append, arith, refl}
 use Rattle.gl_numbers.specs.Bytes.{le32}
 use Rattle.gl_numbers.proofs.Bytes.{length-le32}
 use Rattle.call_records.specs.declared.calls.Call.{Call}
+use Rattle.call_records.specs.Longs.{le64}
 use Rattle.call_records.specs.Records.{closing_record, spelling, body_of}
+
+pub length-le64 : (z : ℤ) → length (le64 z) ≡ 8
+unfolding le64
+length-le64 z = refl
 
 pub length-closing_record : length closing_record ≡ 8
 unfolding closing_record le32
@@ -12,4 +17,4 @@ length-closing_record = refl
 pub length-spelling : (call : Call) → length (spelling call) ≡ 8 + length (body_of call)
 length-spelling call = simp (length-append, length-le32) (omega arith)
 
-pub ruleset lengths = (length-le32, length-append, length-closing_record, length-spelling)
+pub ruleset lengths = (length-le32, length-le64, length-append, length-closing_record, length-spelling)

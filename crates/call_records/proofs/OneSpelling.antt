@@ -1,11 +1,13 @@
 -- Each spelling is of one call, and no refusal comes before the rest of a session.
-use Rattle.std.proofs.Common.{◌≡◌, ℕ, ◌+◌, ◌<◌, ◌≤◌, ◌^◌, ◌⊎◌, List, [], ◌∷◌, ◌++◌, length, take, drop, Some, Result, Ok, Err, IsOk, All, true, inl, inr, refl, sym, ap, ◌∙◌, arith, append_assoc, length-append, append-nil, lit<}
+use Rattle.std.proofs.Common.{◌≡◌, ℕ, ℤ, ◌+◌, ◌<◌, ◌≤◌, ◌^◌, ◌⊎◌, List, [], ◌∷◌, ◌++◌, length, take, drop, Some, Result, Ok, Err, IsOk, All, true, inl, inr, refl, sym, ap, ◌∙◌, arith, append_assoc, length-append, append-nil, lit<}
 use Rattle.std.proofs.Math.Seq.{take-append_seam, drop-append_seam}
-use Rattle.std.proofs.lemmas.Nat.{from_le_bytes-to_le_bytes_4}
+use Rattle.std.proofs.lemmas.Nat.{from_le_bytes-to_le_bytes_4, from_le_bytes-to_le_bytes_8}
+use Rattle.std.proofs.lemmas.Int.{to_z-of_z}
+use Rattle.std.proofs.Math.Facts.{Fits-of_z}
 use Rattle.std.proofs.lemmas.Bool.{le-leb}
 use Rattle.std.proofs.lemmas.List.{append_cancel_left}
 use Rattle.std.proofs.lemmas.List.Elements.{All-head, All-tail}
-use Rattle.std.specs.Int.{from_le_bytes, w32}
+use Rattle.std.specs.Int.{from_le_bytes, to_le_bytes, cast_signed, cast_unsigned, w32, w64}
 use Rattle.std.specs.List.{flat_map}
 use Rattle.gl_numbers.specs.Bytes.{le32}
 use Rattle.gl_numbers.proofs.Bytes.{length-le32, Same, le32-one}
@@ -13,9 +15,12 @@ use Rattle.call_records.specs.declared.operations.TheConstants.{CLOSE, BODY_MAX}
 use Rattle.call_records.specs.declared.operations.Operation.{Operation}
 use Rattle.call_records.specs.declared.operations.Operation.TheVariants as Op
 use Rattle.call_records.specs.declared.calls.New.TheVariants.{Buffer}
-use Rattle.call_records.specs.declared.calls.Fill.TheVariants.{Bytes}
+use Rattle.call_records.specs.declared.calls.Fill.TheVariants.{Size, Bytes}
+use Rattle.gl_numbers.specs.declared.kinds.Kind.TheVariants as Kinds
+use Rattle.call_records.specs.Longs.{le64, IsLong}
+use Rattle.call_records.proofs.Lengths.{length-le64}
 use Rattle.call_records.specs.declared.calls.Call.{Call}
-use Rattle.call_records.specs.declared.calls.Call.TheVariants.{Create, BindBuffer, BufferData, GetError}
+use Rattle.call_records.specs.declared.calls.Call.TheVariants.{Create, Delete, IsKind, BindBuffer, BufferData, BufferSubData, GetBufferParameter, GetError}
 use Rattle.call_records.specs.Operations.{number_of, operation_numbered, is_known, has_shape}
 use Rattle.call_records.specs.Records.{operation_of, op_of, body_of, spelling, HasWords, Fits, plain, session_start, closing_record, session}
 use Rattle.call_records.specs.declared.reading.TheConstants.{INPUT_MAX, SESSION_MAGIC, SESSION_VERSION}
@@ -29,30 +34,57 @@ use Rattle.call_records.proofs.Refusals.{number_fits, start_words}
 word : List ℕ → ℕ
 word body = from_le_bytes w32 (take 4 body)
 
+-- the number of 64 bits whose bytes begin the list
+long : List ℕ → ℤ
+long body = cast_signed w64 (from_le_bytes w64 (take 8 body))
+
+-- a number of 64 bits is read again
+long-again : (z : ℤ) → IsLong z → cast_signed w64 (from_le_bytes w64 (to_le_bytes w64 (cast_unsigned w64 z))) ≡ z
+long-again z fits = rw (from_le_bytes-to_le_bytes_8 (cast_unsigned w64 z) ((Fits-of_z fits).fits)) (to_z-of_z w64 z fits)
+
 -- the call of an operation with this body, its tail lying nowhere
 call_for : Operation → List ℕ → Call
 call_for Op.CreateBuffer body = Create Buffer
+call_for Op.DeleteBuffer body = Delete Kinds.Buffer (word body)
+call_for Op.IsBuffer body = IsKind Kinds.Buffer (word body)
 call_for Op.BindBuffer body = BindBuffer (word body) (word (drop 4 body))
+call_for Op.BufferSize body = BufferData (word body) (word (drop 4 body)) (Size (long (drop 8 body)))
 call_for Op.BufferData body =
     BufferData (word body) (word (drop 4 body)) (Bytes (record { ref_ptr = (0, 0); now = drop 8 body }))
+call_for Op.BufferSubData body =
+    BufferSubData (word body) (long (drop 4 body)) (record { ref_ptr = (0, 0); now = drop 12 body })
+call_for Op.GetBufferParameter body = GetBufferParameter (word body) (word (drop 4 body))
 call_for Op.GetError body = GetError
 
 -- reading a call's body again gives the call
 again : (call : Call) → HasWords call → call_for (operation_of call) (body_of call) ≡ plain call
-unfolding call_for word le32
+unfolding call_for word long le32 le64
 again (Create Buffer) h = refl
+again (Delete kind handle) h = rw (from_le_bytes-to_le_bytes_4 handle h.1, h.0) refl
+again (IsKind kind handle) h = rw (from_le_bytes-to_le_bytes_4 handle h.1, h.0) refl
 again (BindBuffer target handle) h =
     rw (from_le_bytes-to_le_bytes_4 target h.0, from_le_bytes-to_le_bytes_4 handle h.1) refl
+again (BufferData target usage (Size size)) h =
+    rw (from_le_bytes-to_le_bytes_4 target h.0, from_le_bytes-to_le_bytes_4 usage h.1, long-again size h.2) refl
 again (BufferData target usage (Bytes tail)) h =
     rw (from_le_bytes-to_le_bytes_4 target h.0, from_le_bytes-to_le_bytes_4 usage h.1) refl
+again (BufferSubData target offset tail) h =
+    rw (from_le_bytes-to_le_bytes_4 target h.0, long-again offset h.1) refl
+again (GetBufferParameter target name) h =
+    rw (from_le_bytes-to_le_bytes_4 target h.0, from_le_bytes-to_le_bytes_4 name h.1) refl
 again GetError h = refl
 
 -- each number is of one operation
 numbered : (operation : Operation) → operation_numbered (number_of operation) ≡ Some operation
 unfolding operation_numbered
 numbered Op.CreateBuffer = refl
+numbered Op.DeleteBuffer = refl
+numbered Op.IsBuffer = refl
 numbered Op.BindBuffer = refl
+numbered Op.BufferSize = refl
 numbered Op.BufferData = refl
+numbered Op.BufferSubData = refl
+numbered Op.GetBufferParameter = refl
 numbered Op.GetError = refl
 
 -- a call's spelling and more: its number, its body's length, and then the body and more
@@ -87,8 +119,13 @@ spelling-one a b x y p q e =
 -- no call has the closing record's number
 not_close : (operation : Operation) → number_of operation ≡ CLOSE → ⊥
 not_close Op.CreateBuffer e = absurd (omega arith)
+not_close Op.DeleteBuffer e = absurd (omega arith)
+not_close Op.IsBuffer e = absurd (omega arith)
 not_close Op.BindBuffer e = absurd (omega arith)
+not_close Op.BufferSize e = absurd (omega arith)
 not_close Op.BufferData e = absurd (omega arith)
+not_close Op.BufferSubData e = absurd (omega arith)
+not_close Op.GetBufferParameter e = absurd (omega arith)
 not_close Op.GetError e = absurd (omega arith)
 
 -- no call's record begins the closing record, nor the other way round
@@ -103,18 +140,31 @@ spelling-not_closing call x y e =
 known : (operation : Operation) → is_known (number_of operation) ≡ true
 unfolding operation_numbered
 known Op.CreateBuffer = refl
+known Op.DeleteBuffer = refl
+known Op.IsBuffer = refl
 known Op.BindBuffer = refl
+known Op.BufferSize = refl
 known Op.BufferData = refl
+known Op.BufferSubData = refl
+known Op.GetBufferParameter = refl
 known Op.GetError = refl
 
 -- each call's body has its operation's form
 shape : (call : Call) → has_shape (op_of call) (length (body_of call)) ≡ true
 unfolding operation_numbered
 shape (Create Buffer) = refl
+shape (Delete kind handle) = let size = length-le32 handle in rw size refl
+shape (IsKind kind handle) = let size = length-le32 handle in rw size refl
 shape (BindBuffer target handle) =
     let size : length (le32 target ++ le32 handle) ≡ 8 = simp (length-append, length-le32) in rw size refl
+shape (BufferData target usage (Size size)) =
+    let bytes : length (le32 target ++ (le32 usage ++ le64 size)) ≡ 16 = simp (length-append, length-le32, length-le64) in rw bytes refl
 shape (BufferData target usage (Bytes tail)) =
     le-leb 8 _ (omega (arith, length-append (le32 target) (le32 usage ++ tail.now), length-append (le32 usage) tail.now, length-le32 target, length-le32 usage))
+shape (BufferSubData target offset tail) =
+    le-leb 12 _ (omega (arith, length-append (le32 target) (le64 offset ++ tail.now), length-append (le64 offset) tail.now, length-le32 target, length-le64 offset))
+shape (GetBufferParameter target name) =
+    let size : length (le32 target ++ le32 name) ≡ 8 = simp (length-append, length-le32) in rw size refl
 shape GetError = refl
 
 -- a header that nothing refuses, and at least its whole body

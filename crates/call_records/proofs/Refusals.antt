@@ -7,7 +7,7 @@ use Rattle.wire_io.specs.Sources.{WhereTold}
 use Rattle.wire_io.proofs.Known.{taken_twice}
 use Rattle.wire_io.proofs.Told.{told, told_end}
 use Rattle.call_records.specs.declared.operations.Operation.{Operation}
-use Rattle.call_records.specs.declared.operations.Operation.TheVariants.{CreateBuffer, BindBuffer, BufferData, GetError}
+use Rattle.call_records.specs.declared.operations.Operation.TheVariants.{CreateBuffer, DeleteBuffer, IsBuffer, BindBuffer, BufferSize, BufferData, BufferSubData, GetBufferParameter, GetError}
 use Rattle.call_records.specs.declared.reading.TheConstants.{SESSION_MAGIC, SESSION_VERSION}
 use Rattle.call_records.specs.declared.reading.Head.{Head}
 use Rattle.call_records.specs.declared.reading.Head.TheVariants.{Closing, Record}
@@ -87,8 +87,13 @@ head_refused at number len old new (Err ReadFault) p q e j = absurd j
 -- each operation's number is a word
 pub number_fits : (operation : Operation) → number_of operation < 2 ^ 32
 number_fits CreateBuffer = lit< tt
+number_fits DeleteBuffer = lit< tt
+number_fits IsBuffer = lit< tt
 number_fits BindBuffer = lit< tt
+number_fits BufferSize = lit< tt
 number_fits BufferData = lit< tt
+number_fits BufferSubData = lit< tt
+number_fits GetBufferParameter = lit< tt
 number_fits GetError = lit< tt
 
 -- a header and a part of its body

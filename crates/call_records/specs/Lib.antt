@@ -1,3 +1,4 @@
+pub mod Longs
 pub mod Operations
 pub mod Records
 pub mod Replies

@@ -1,9 +1,10 @@
 ghost use Rattle.std.specs.Prelude.{◌≡◌, ℕ, length, true};
-ghost use Rattle.call_records.specs.Records.{operation_of, body_of, spelling, Fits};
+ghost use Rattle.call_records.specs.Records.{operation_of, body_of, spelling, HasWords, Fits};
 ghost use Rattle.call_records.specs.Operations.{allows, layout_of};
 
+use crate::longs::i64_at;
 use crate::operations::{BODY_MAX, HEADER_BYTES, Layout, Operation};
-use gl_numbers::{two_words, u32_at};
+use gl_numbers::{Kind, u32_at};
 
 /// What a call creates (WebGL 1.0 section 5.14).
 #[derive(Clone, Copy, Debug, PartialEq, Eq)]
@@ -15,6 +16,8 @@ pub enum New {
 /// What bufferData fills a buffer with (WebGL 1.0 section 5.14.5).
 #[derive(Clone, Copy, Debug, PartialEq, Eq)]
 pub enum Fill<'a> {
+    /// Zeros, of this many bytes; a page may ask for a negative size, or for too many.
+    Size(i64),
     /// These bytes, which give the buffer its size.
     Bytes(&'a [u8]),
 }
@@ -25,10 +28,18 @@ pub enum Fill<'a> {
 pub enum Call<'a> {
     /// createBuffer
     Create(New),
+    /// deleteBuffer: kind, handle. A record has the kind `Buffer`.
+    Delete(Kind, u32),
+    /// isBuffer: kind, handle. A record has the kind `Buffer`.
+    IsKind(Kind, u32),
     /// bindBuffer: target, handle.
     BindBuffer(u32, u32),
     /// bufferData: target, usage, content.
     BufferData(u32, u32, Fill<'a>),
+    /// bufferSubData: target, offset in bytes, bytes.
+    BufferSubData(u32, i64, &'a [u8]),
+    /// getBufferParameter: target, parameter name.
+    GetBufferParameter(u32, u32),
     /// getError
     GetError,
 }
@@ -43,8 +54,11 @@ impl Call<'_> {
         HEADER_BYTES
             + match self {
                 Call::Create(New::Buffer) => 0,
-                Call::BindBuffer(_, _) => 8,
+                Call::Delete(_, _) | Call::IsKind(_, _) => 4,
+                Call::BindBuffer(_, _) | Call::GetBufferParameter(_, _) => 8,
+                Call::BufferData(_, _, Fill::Size(_)) => 16,
                 Call::BufferData(_, _, Fill::Bytes(tail)) => 8 + tail.len(),
+                Call::BufferSubData(_, _, tail) => 12 + tail.len(),
                 Call::GetError => 0,
             }
     }
@@ -55,12 +69,26 @@ pub fn call_of(operation: Operation, body: &[u8]) -> Call<'_>
     requires { allows (layout_of operation) (length body.now) ≡ true }
     ensures operation { operation_of result ≡ operation }
     ensures body { body_of result ≡ body.now }
+    ensures words { HasWords result }
 {
     match operation {
         Operation::CreateBuffer => Call::Create(New::Buffer),
+        Operation::DeleteBuffer => Call::Delete(Kind::Buffer, u32_at(body)),
+        Operation::IsBuffer => Call::IsKind(Kind::Buffer, u32_at(body)),
         Operation::BindBuffer => Call::BindBuffer(u32_at(body), u32_at(&body[4..])),
+        Operation::BufferSize => Call::BufferData(
+            u32_at(body),
+            u32_at(&body[4..]),
+            Fill::Size(i64_at(&body[8..])),
+        ),
         Operation::BufferData => {
             Call::BufferData(u32_at(body), u32_at(&body[4..]), Fill::Bytes(&body[8..]))
+        }
+        Operation::BufferSubData => {
+            Call::BufferSubData(u32_at(body), i64_at(&body[4..]), &body[12..])
+        }
+        Operation::GetBufferParameter => {
+            Call::GetBufferParameter(u32_at(body), u32_at(&body[4..]))
         }
         Operation::GetError => Call::GetError,
     }

@@ -4,19 +4,22 @@
 #![tactic(auto)]
 
 mod calls;
+mod longs;
 mod operations;
 mod reading;
 mod record_buf;
 mod replies;
 mod reply_reading;
 #[cfg(test)]
+mod reply_tests;
+#[cfg(test)]
 mod tests;
 mod writing;
 
 pub use calls::{Call, Fill, New};
 pub use operations::{
-    BIND_BUFFER, BODY_MAX, BUFFER_DATA, CLOSE, CREATE_BUFFER, GET_ERROR, HEADER_BYTES, Layout,
-    Operation,
+    BIND_BUFFER, BODY_MAX, BUFFER_DATA, BUFFER_SIZE, BUFFER_SUB_DATA, CLOSE, CREATE_BUFFER,
+    DELETE_BUFFER, GET_BUFFER_PARAMETER, GET_ERROR, HEADER_BYTES, IS_BUFFER, Layout, Operation,
 };
 pub use reading::{
     INPUT_MAX, ReadEnd, SESSION_MAGIC, SESSION_VERSION, Step, read_call, read_start,

@@ -5,10 +5,20 @@ ghost use Rattle.call_records.specs.Operations.{number_of, layout_of, operation_
 pub const CLOSE: u32 = 0;
 /// The number of createBuffer.
 pub const CREATE_BUFFER: u32 = 1;
+/// The number of deleteBuffer.
+pub const DELETE_BUFFER: u32 = 7;
+/// The number of isBuffer.
+pub const IS_BUFFER: u32 = 13;
 /// The number of bindBuffer.
 pub const BIND_BUFFER: u32 = 19;
+/// The number of bufferData with a size.
+pub const BUFFER_SIZE: u32 = 20;
 /// The number of bufferData with bytes.
 pub const BUFFER_DATA: u32 = 21;
+/// The number of bufferSubData.
+pub const BUFFER_SUB_DATA: u32 = 22;
+/// The number of getBufferParameter.
+pub const GET_BUFFER_PARAMETER: u32 = 23;
 /// The number of getError.
 pub const GET_ERROR: u32 = 86;
 
@@ -43,10 +53,20 @@ impl Layout {
 pub enum Operation {
     /// createBuffer: no fields.
     CreateBuffer,
+    /// deleteBuffer: handle.
+    DeleteBuffer,
+    /// isBuffer: handle.
+    IsBuffer,
     /// bindBuffer: target, handle.
     BindBuffer,
+    /// bufferData: target, usage, and a size of 64 bits with a sign.
+    BufferSize,
     /// bufferData: target, usage, and the bytes.
     BufferData,
+    /// bufferSubData: target, an offset of 64 bits with a sign, and the bytes.
+    BufferSubData,
+    /// getBufferParameter: target, parameter name.
+    GetBufferParameter,
     /// getError: no fields.
     GetError,
 }
@@ -60,8 +80,13 @@ impl Operation {
     {
         match n {
             CREATE_BUFFER => Some(Operation::CreateBuffer),
+            DELETE_BUFFER => Some(Operation::DeleteBuffer),
+            IS_BUFFER => Some(Operation::IsBuffer),
             BIND_BUFFER => Some(Operation::BindBuffer),
+            BUFFER_SIZE => Some(Operation::BufferSize),
             BUFFER_DATA => Some(Operation::BufferData),
+            BUFFER_SUB_DATA => Some(Operation::BufferSubData),
+            GET_BUFFER_PARAMETER => Some(Operation::GetBufferParameter),
             GET_ERROR => Some(Operation::GetError),
             _ => None,
         }
@@ -73,8 +98,13 @@ impl Operation {
     {
         match self {
             Operation::CreateBuffer => Layout::Fields(0),
+            Operation::DeleteBuffer => Layout::Fields(4),
+            Operation::IsBuffer => Layout::Fields(4),
             Operation::BindBuffer => Layout::Fields(8),
+            Operation::BufferSize => Layout::Fields(16),
             Operation::BufferData => Layout::FieldsAndBytes(8),
+            Operation::BufferSubData => Layout::FieldsAndBytes(12),
+            Operation::GetBufferParameter => Layout::Fields(8),
             Operation::GetError => Layout::Fields(0),
         }
     }

@@ -3,12 +3,16 @@ ghost use Rattle.gl_numbers.specs.Bytes.{le32};
 ghost use Rattle.wire_io.specs.Faults.{HasCause};
 ghost use Rattle.wire_io.specs.Sinks.{Sends};
 ghost use Rattle.call_records.specs.Records.{Fits, spelling};
-ghost use Rattle.call_records.specs.declared.calls.Call.TheVariants.{BindBuffer, BufferData};
-ghost use Rattle.call_records.specs.declared.calls.Fill.TheVariants.{Bytes};
+ghost use Rattle.call_records.specs.declared.calls.Call.TheVariants.{BufferData, BufferSubData};
+ghost use Rattle.call_records.specs.declared.calls.Fill.TheVariants.{Size, Bytes};
+ghost use Rattle.call_records.specs.Longs.{le64};
 
 use crate::calls::{Call, Fill, New};
-use crate::operations::{BIND_BUFFER, BUFFER_DATA, CREATE_BUFFER, GET_ERROR};
-use gl_numbers::two_words;
+use crate::operations::{
+    BIND_BUFFER, BUFFER_DATA, BUFFER_SIZE, BUFFER_SUB_DATA, CREATE_BUFFER, DELETE_BUFFER,
+    GET_BUFFER_PARAMETER, GET_ERROR, IS_BUFFER,
+};
+use gl_numbers::{three_words, two_words};
 use wire_io::{Failed, Sink, write_all};
 
 /// Four words' bytes.
@@ -25,12 +29,34 @@ fn four_words(a: u32, b: u32, c: u32, d: u32) -> [u8; 16]
     ]
 }
 
-/// The whole record of a bindBuffer.
-#[tactic(auto, unfolding(gl_numbers::specs::Bytes::le32))]
-fn bind_buffer(target: u32, handle: u32) -> [u8; 16]
-    ensures { result ≡ spelling (BindBuffer target handle) }
+/// Three words' bytes, and a number's of 64 bits.
+#[tactic(auto, unfolding(gl_numbers::specs::Bytes::le32, crate::specs::Longs::le64))]
+fn three_words_and_long(a: u32, b: u32, c: u32, d: i64) -> [u8; 20]
+    ensures { result ≡ le32 a ++ (le32 b ++ (le32 c ++ le64 d)) }
 {
-    four_words(BIND_BUFFER, 8, target, handle)
+    let [a0, a1, a2, a3] = a.to_le_bytes();
+    let [b0, b1, b2, b3] = b.to_le_bytes();
+    let [c0, c1, c2, c3] = c.to_le_bytes();
+    let [d0, d1, d2, d3, d4, d5, d6, d7] = d.to_le_bytes();
+    [
+        a0, a1, a2, a3, b0, b1, b2, b3, c0, c1, c2, c3, d0, d1, d2, d3, d4, d5, d6, d7,
+    ]
+}
+
+/// The whole record of a bufferData with a size.
+#[tactic(auto, unfolding(gl_numbers::specs::Bytes::le32, crate::specs::Longs::le64))]
+fn buffer_size(target: u32, usage: u32, size: i64) -> [u8; 24]
+    ensures { result ≡ spelling (BufferData target usage (Size size)) }
+{
+    let [a0, a1, a2, a3] = BUFFER_SIZE.to_le_bytes();
+    let [b0, b1, b2, b3] = 16u32.to_le_bytes();
+    let [c0, c1, c2, c3] = target.to_le_bytes();
+    let [d0, d1, d2, d3] = usage.to_le_bytes();
+    let [e0, e1, e2, e3, e4, e5, e6, e7] = size.to_le_bytes();
+    [
+        a0, a1, a2, a3, b0, b1, b2, b3, c0, c1, c2, c3, d0, d1, d2, d3, e0, e1, e2, e3, e4, e5, e6,
+        e7,
+    ]
 }
 
 /// The record of a bufferData up to its bytes.
@@ -42,9 +68,30 @@ fn buffer_data(target: u32, usage: u32, bytes: &[u8]) -> [u8; 16]
     four_words(BUFFER_DATA, 8 + bytes.len() as u32, target, usage)
 }
 
+/// The record of a bufferSubData up to its bytes.
+#[tactic(auto, unfolding(gl_numbers::specs::Bytes::le32, crate::specs::Longs::le64))]
+fn buffer_sub_data(target: u32, offset: i64, bytes: &[u8]) -> [u8; 20]
+    requires { Fits (BufferSubData target offset bytes) }
+    ensures { result ++ bytes.now ≡ spelling (BufferSubData target offset bytes.entry) }
+{
+    three_words_and_long(BUFFER_SUB_DATA, 12 + bytes.len() as u32, target, offset)
+}
+
+/// Writes the front of a record, and then its bytes, which are not copied.
+#[tactic(auto, using(wire_io::proofs::Known::sends_then, wire_io::proofs::Known::sends_stop))]
+fn write_with_bytes<O: Sink>(front: &[u8], bytes: &[u8], out: &mut O) -> Result<(), Failed>
+    ensures bytes { Sends (O.held out.old) (O.held out.new) result (front.now ++ bytes.now) }
+    ensures cause { HasCause (O.faults out.old) (O.faults out.new) result }
+{
+    let Ok(()) = write_all(front, out) else {
+        return Err(Failed);
+    };
+    write_all(bytes, out)
+}
+
 /// Writes a call's record, header and body (this project's own format). Failed comes only where the sink's
 /// number of faults rose; then a front of the record was written. The tail's bytes are not copied.
-#[tactic(auto, using(wire_io::proofs::Known::sends_then, wire_io::proofs::Known::sends_stop))]
+#[tactic(auto, using(crate::proofs::Lengths::lengths))]
 pub fn write_call<O: Sink>(call: &Call<'_>, out: &mut O) -> Result<(), Failed>
     requires { Fits call.now }
     ensures bytes { Sends (O.held out.old) (O.held out.new) result (spelling call.now) }
@@ -52,12 +99,22 @@ pub fn write_call<O: Sink>(call: &Call<'_>, out: &mut O) -> Result<(), Failed>
 {
     match call {
         Call::Create(New::Buffer) => write_all(&two_words(CREATE_BUFFER, 0), out),
-        Call::BindBuffer(target, handle) => write_all(&bind_buffer(*target, *handle), out),
+        Call::Delete(_, handle) => write_all(&three_words(DELETE_BUFFER, 4, *handle), out),
+        Call::IsKind(_, handle) => write_all(&three_words(IS_BUFFER, 4, *handle), out),
+        Call::BindBuffer(target, handle) => {
+            write_all(&four_words(BIND_BUFFER, 8, *target, *handle), out)
+        }
+        Call::BufferData(target, usage, Fill::Size(size)) => {
+            write_all(&buffer_size(*target, *usage, *size), out)
+        }
         Call::BufferData(target, usage, Fill::Bytes(tail)) => {
-            let Ok(()) = write_all(&buffer_data(*target, *usage, tail), out) else {
-                return Err(Failed);
-            };
-            write_all(tail, out)
+            write_with_bytes(&buffer_data(*target, *usage, tail), tail, out)
+        }
+        Call::BufferSubData(target, offset, tail) => {
+            write_with_bytes(&buffer_sub_data(*target, *offset, tail), tail, out)
+        }
+        Call::GetBufferParameter(target, name) => {
+            write_all(&four_words(GET_BUFFER_PARAMETER, 8, *target, *name), out)
         }
         Call::GetError => write_all(&two_words(GET_ERROR, 0), out),
     }
