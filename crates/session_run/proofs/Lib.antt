@@ -13,3 +13,7 @@ pub mod Completing
 pub mod Finishing
 pub mod OneStream
 pub mod OneSession
+pub mod Playing
+pub mod ReplayReading
+pub mod ReplayCompleting
+pub mod ReplayFinishing

@@ -9,3 +9,6 @@ pub mod Follows
 pub mod Sessions
 pub mod Causes
 pub mod Outcomes
+pub mod Tallies
+pub mod ReplayOutcomes
+pub mod Playing

@@ -6,7 +6,10 @@
 mod bound_buffers;
 mod errors;
 mod page;
+mod replay;
 mod sending;
 mod session;
+mod tally;
 
+pub use replay::replay_session;
 pub use session::run_session;

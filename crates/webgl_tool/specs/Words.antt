@@ -8,3 +8,9 @@ is_run [] = false
 is_run (command ∷ []) = false
 is_run (command ∷ path ∷ []) = bytes_eq command (codes "run") && not (length path == 0)
 is_run (command ∷ path ∷ word ∷ words) = false
+
+-- the words are `replay` alone
+abbrev pub is_replay : List (List ℕ) → Bool
+is_replay [] = false
+is_replay (command ∷ []) = bytes_eq command (codes "replay")
+is_replay (command ∷ word ∷ words) = false

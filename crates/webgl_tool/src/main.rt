@@ -1,9 +1,12 @@
 //! The tool: reads a session of recorded WebGL 1.0 calls from standard input, writes the replies to standard
-//! output, and writes the driver's stream to a file. The contract in one sentence: `tool::run_tool` answers a
-//! session as the page's machine does, and the stream that it sends replays to exactly the same; what stands
-//! here hands it the words of the command line and the real ends, and tells its status.
+//! output, and writes the driver's stream to a file; or reads such a stream and replays it. The contract in one
+//! sentence: `tool::run_tool` answers a session as the page's machine does, and the stream that it sends replays
+//! to exactly the same; what stands here hands it the words of the command line and the real ends, and tells its
+//! status.
 #![tactic(auto)]
 
+#[cfg(test)]
+mod replay_tests;
 #[cfg(test)]
 mod tests;
 mod tool;
@@ -50,7 +53,7 @@ fn exit_status(status: Status) -> u8 {
 fn tell(rt: &impl Eprint, status: Status) {
     let _ = match status {
         Status::Ok => Ok(()),
-        Status::Usage => eprintln!(rt; "usage: webgl_tool run PATH"),
+        Status::Usage => eprintln!(rt; "usage: webgl_tool run PATH | replay"),
         other => eprintln!(rt; "{other}"),
     };
 }

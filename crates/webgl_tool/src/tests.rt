@@ -252,7 +252,7 @@ fn words_that_are_no_command_touch_nothing(rt: HostRuntime) -> Result<(), Fail> 
         &["run ", "out.bin"],
         &["", "out.bin"],
         &["out.bin", "run"],
-        &["replay"],
+        &["replay", "out.bin"],
         &["scene", "1"],
     ];
     for texts in cases {
