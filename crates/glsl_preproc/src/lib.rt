@@ -5,6 +5,7 @@
 //! `Expansion` says of these tokens, or the line of the first directive or use of a macro that the section refuses.
 #![tactic(auto)]
 
+mod brackets;
 mod calls;
 mod conditionals;
 mod conditions;
