@@ -1,11 +1,11 @@
 -- The `)` that close no `(`, counted from the end of a list.
 use Rattle.std.proofs.Common.{◌≡◌, ◌<◌, ◌≤◌, ◌+◌, ◌-◌, ◌++◌, ℕ, zero, suc, Bool, true, false, cond, eqb, ◌&&◌, List, [], ◌∷◌, length, take, drop, get_or, Some, None, refl, sym, ap, subst, ◌∙◌, arith}
 use Rattle.std.proofs.lemmas.Bool.{eqb-true}
-use Rattle.std.proofs.lemmas.List.{length_push, get_or_append_left, get_or_push, length-map, length-drop, take_all}
+use Rattle.std.proofs.lemmas.List.{get_or_append_left, get_or_push, length-map, length-drop, take_all}
 use Rattle.glsl_tree.specs.Token.{PlainToken, plain, plain_tokens}
 use Rattle.glsl_tree.specs.declared.token.Token.{Token}
 use Rattle.glsl_preproc.specs.Replacement.{arguments_from, opens, closes, is_comma}
-use Rattle.glsl_preproc.specs.LoneClosers.{lone_closers, IsCount, AreCounts}
+use Rattle.glsl_preproc.specs.LoneClosers.{lone_closers, AreCounts}
 
 -- Nothing is kept at first.
 pub no_counts : (counts : List ℕ) (list : List PlainToken) → counts ≡ [] → AreCounts counts list

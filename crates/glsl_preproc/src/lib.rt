@@ -7,10 +7,13 @@
 
 mod brackets;
 mod calls;
+mod conditional_steps;
 mod conditionals;
 mod conditions;
+mod directive_steps;
 mod directives;
 mod errors;
+mod hashes;
 mod kinds;
 mod macro_table;
 mod macros;
