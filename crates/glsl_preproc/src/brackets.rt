@@ -47,7 +47,7 @@ fn counts_of(alloc: Global, list: &[Token]) -> Result<Vec<usize>, AllocError>
 }
 
 impl Brackets {
-    ghost use Rattle.std.specs.Prelude.{◌≡◌, Bool, false, [], OnOk};
+    ghost use Rattle.std.specs.Prelude.{◌<◌, true, length, ◌≡◌, Bool, false, [], OnOk};
     ghost use Rattle.glsl_tree.specs.Token.{plain_tokens};
     ghost use Rattle.glsl_preproc.specs.LoneClosers.{lone_closers, AreCounts};
 
@@ -75,7 +75,8 @@ impl Brackets {
     /// nothing is counted, for all that is known.
     pub fn may_close(&self, rest: &[Token]) -> bool
         requires { AreCounts self.now.counts.items (plain_tokens rest.now) }
-        ensures { result ≡ false → lone_closers (plain_tokens rest.now) ≡ 0 }
+        ensures none { result ≡ false → lone_closers (plain_tokens rest.now) ≡ 0 }
+        ensures some { length rest.now < length self.now.counts.items → result ≡ true → 0 < lone_closers (plain_tokens rest.now) }
     {
         let counts = self.counts.as_slice();
         let len = rest.len();
