@@ -3,6 +3,7 @@ pub mod Same
 pub mod Fitting
 pub mod Arguments
 pub mod ArgumentLists
+pub mod LoneClosers
 pub mod Substitution
 pub mod Expanding
 pub mod Answering

@@ -1,5 +1,6 @@
 pub mod Macros
 pub mod Replacement
+pub mod LoneClosers
 pub mod Values
 pub mod Conditions
 pub mod Directives

@@ -48,10 +48,10 @@ use_view (found.Object m) = Object (plain_macro m.now)
 use_view (found.Call m a) = Call (plain_macro m.now) (parameters_of m.now.parameters) (lists a.lists.items) a.count
 use_view found.WrongCount = WrongCount
 
--- a call takes no more tokens than there are
-abbrev pub IsWithin : List PlainToken → Found → Type 0
-IsWithin rest (found.Call m a) = a.count ≤ length rest
-IsWithin rest _ = Unit {0}
+-- a call takes no more tokens than these
+abbrev pub IsWithin : ℕ → Found → Type 0
+IsWithin n (found.Call m a) = a.count ≤ n
+IsWithin n _ = Unit {0}
 
 -- an expansion was done as the outcome says, unless memory is wanting: up to its end, or past so many tokens
 abbrev pub Expands : ℕ → Outcome → List PlainToken → Result (Unit {0}) Pre → Type 0

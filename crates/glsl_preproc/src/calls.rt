@@ -1,10 +1,12 @@
-ghost use Rattle.std.specs.Prelude.{◌≡◌, ◌≤◌, ◌<◌, ◌+◌, ◌-◌, ◌==◌, ◌&&◌, if◌then◌else◌, [], IfOk, IfSome, length};
+ghost use Rattle.std.specs.Prelude.{◌≡◌, ◌≤◌, ◌<◌, ◌+◌, ◌-◌, ◌==◌, ◌&&◌, if◌then◌else◌, [], IfOk, IfSome, OnOk, length};
 ghost use Rattle.std.specs.List.{list_any};
 ghost use Rattle.std.specs.Str.{bytes_eq};
 ghost use Rattle.glsl_tree.specs.Token.{plain, plain_tokens};
-ghost use Rattle.glsl_preproc.specs.Replacement.{opens, closes, is_comma, arguments_from, fits_parameters, used, use_of};
-ghost use Rattle.glsl_preproc.specs.Views.{plain_macro, plain_macros, texts, found_of, lists, use_view, IsWithin};
+ghost use Rattle.glsl_preproc.specs.Replacement.{opens, closes, is_comma, arguments_from, fits_parameters, called, used, use_of};
+ghost use Rattle.glsl_preproc.specs.LoneClosers.{AreCounts};
+ghost use Rattle.glsl_preproc.specs.Views.{plain_macro, plain_macros, texts, found_of, lists, parameters_of, use_view, IsWithin};
 
+use crate::brackets::Brackets;
 use crate::macro_table::find_macro;
 use crate::macros::Macro;
 use crate::tokens::{closes, is_comma, is_name, is_text, opens, push_copy, push_list};
@@ -106,24 +108,62 @@ fn fits_parameters(parameters: &[Vec<u8>], arguments: &[Vec<Token>]) -> bool
     }
 }
 
-/// What a macro's name is, with the tokens behind it.
-fn use_of_macro<'a>(alloc: Global, m: &'a Macro, rest: &[Token]) -> Result<Use<'a>, AllocError>
-    ensures used { IfOk result (λ found. use_view found ≡ used (plain_macro m.now) (plain_macro m.now).parameters (plain_tokens rest.now)) }
-    ensures within { IfOk result (λ found. IsWithin (plain_tokens rest.now) found) }
+/// The parameters of a macro, none where it takes no list of them.
+pub fn parameters_of(m: &Macro) -> &[Vec<u8>]
+    ensures { texts result.now ≡ parameters_of m.now.parameters }
 {
-    let Some(parameters) = &m.parameters else {
-        return Ok(Use::Object(m));
+    match &m.parameters {
+        Some(parameters) => parameters.as_slice(),
+        None => &[],
+    }
+}
+
+/// What the name of a macro with parameters is, with the tokens behind its `(`. They are not searched for a `)` that
+/// does not come.
+#[tactic(auto, using(crate::proofs::LoneClosers::call_kept))]
+fn use_of_call<'a>(
+    alloc: Global,
+    m: &'a Macro,
+    brackets: &Brackets,
+    rest: &[Token],
+) -> Result<Use<'a>, AllocError>
+    requires { AreCounts brackets.now.counts.items (plain_tokens rest.now) }
+    ensures used { IfOk result (λ found. use_view found ≡ called (plain_macro m.now) (parameters_of m.now.parameters) (arguments_from [] [] 0 1 (plain_tokens rest.now))) }
+    ensures within { IfOk result (λ found. IsWithin (length rest.now + 1) found) }
+{
+    if !brackets.may_close(rest) {
+        return Ok(Use::Kept);
+    }
+    let Some(arguments) = arguments_at(alloc, rest)? else {
+        return Ok(Use::Kept);
     };
+    if fits_parameters(parameters_of(m), arguments.lists.as_slice()) {
+        Ok(Use::Call(m, arguments))
+    } else {
+        Ok(Use::WrongCount)
+    }
+}
+
+/// What a macro's name is, with the tokens behind it.
+#[tactic(auto, using(crate::proofs::LoneClosers::counts_behind_bracket))]
+fn use_of_macro<'a>(
+    alloc: Global,
+    m: &'a Macro,
+    brackets: &mut Brackets,
+    rest: &[Token],
+) -> Result<Use<'a>, AllocError>
+    requires { AreCounts brackets.old.counts.items (plain_tokens rest.now) }
+    ensures used { IfOk result (λ found. use_view found ≡ used (plain_macro m.now) (plain_macro m.now).parameters (plain_tokens rest.now)) }
+    ensures within { IfOk result (λ found. IsWithin (length rest.now) found) }
+    ensures counts { OnOk result (AreCounts brackets.new.counts.items (plain_tokens rest.now)) }
+{
+    if m.parameters.is_none() {
+        return Ok(Use::Object(m));
+    }
     match rest {
         [first, tail @ ..] if opens(first) => {
-            let Some(arguments) = arguments_at(alloc, tail)? else {
-                return Ok(Use::Kept);
-            };
-            if fits_parameters(parameters.as_slice(), arguments.lists.as_slice()) {
-                Ok(Use::Call(m, arguments))
-            } else {
-                Ok(Use::WrongCount)
-            }
+            brackets.count(alloc, rest)?;
+            use_of_call(alloc, m, brackets, tail)
         }
         _ => Ok(Use::Kept),
     }
@@ -147,11 +187,14 @@ pub fn use_of<'a>(
     alloc: Global,
     macros: &'a [Macro],
     hidden: &[Vec<u8>],
+    brackets: &mut Brackets,
     token: &Token,
     rest: &[Token],
 ) -> Result<Use<'a>, AllocError>
+    requires { AreCounts brackets.old.counts.items (plain_tokens rest.now) }
     ensures used { IfOk result (λ found. use_view found ≡ use_of (plain_macros macros.now) (texts hidden.now) (plain token.now) (plain_tokens rest.now)) }
-    ensures within { IfOk result (λ found. IsWithin (plain_tokens rest.now) found) }
+    ensures within { IfOk result (λ found. IsWithin (length rest.now) found) }
+    ensures counts { OnOk result (AreCounts brackets.new.counts.items (plain_tokens rest.now)) }
 {
     if !is_name(token) {
         return Ok(Use::Kept);
@@ -164,6 +207,6 @@ pub fn use_of<'a>(
     }
     match find_macro(macros, token.text.as_slice()) {
         None => Ok(Use::Kept),
-        Some(m) => use_of_macro(alloc, m, rest),
+        Some(m) => use_of_macro(alloc, m, brackets, rest),
     }
 }

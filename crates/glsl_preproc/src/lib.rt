@@ -5,11 +5,15 @@
 //! `Expansion` says of these tokens, or the line of the first directive or use of a macro that the section refuses.
 #![tactic(auto)]
 
+mod brackets;
 mod calls;
+mod conditional_steps;
 mod conditionals;
 mod conditions;
+mod directive_steps;
 mod directives;
 mod errors;
+mod hashes;
 mod kinds;
 mod macro_table;
 mod macros;

@@ -4,7 +4,8 @@ ghost use Rattle.glsl_tree.specs.Token.{plain, plain_tokens};
 ghost use Rattle.glsl_preproc.specs.Replacement.{argument_of, argument_or, substituted, expanded, expanded_arguments, at_line, call_outcome};
 ghost use Rattle.glsl_preproc.specs.Views.{plain_macro, plain_macros, texts, lists, parameters_of, Expands, ExpandsArguments, argument_error};
 
-use crate::calls::{Arguments, Use, use_of};
+use crate::brackets::Brackets;
+use crate::calls::{Arguments, Use, parameters_of, use_of};
 use crate::errors::Pre;
 use crate::macro_table::same_text;
 use crate::macros::Macro;
@@ -15,13 +16,15 @@ use std::alloc::{AllocError, Global};
 /// The most tokens that one expansion handles, 16,777,216.
 pub const WORK: u32 = 16_777_216;
 
-/// Takes one token from the work that is left.
-fn spend(work: &mut u32) -> Result<(), Pre> {
-    if *work == 0 {
-        return Err(Pre::Memory);
+/// Takes so many tokens from the work that is left.
+fn spend(work: &mut u32, tokens: usize) -> Result<(), Pre> {
+    match u32::try_from(tokens) {
+        Ok(tokens) if tokens <= *work => {
+            *work -= tokens;
+            Ok(())
+        }
+        _ => Err(Pre::Memory),
     }
-    *work -= 1;
-    Ok(())
 }
 
 /// The argument for a name, among those of the parameters.
@@ -130,14 +133,15 @@ pub fn expand_list(
         return Err(Pre::Memory);
     }
     let below = levels - 1;
+    let mut brackets = Brackets::new(alloc);
     let mut rest = list;
     while !rest.is_empty() {
-        let Ok(()) = spend(work) else {
+        let Ok(()) = spend(work, 1) else {
             return Err(Pre::Memory);
         };
         let token = &rest[0];
         let tail = rest.split_at(1).1;
-        let Ok(found) = use_of(alloc, macros, hidden.as_slice(), token, tail) else {
+        let Ok(found) = use_of(alloc, macros, hidden.as_slice(), &mut brackets, token, tail) else {
             return Err(Pre::Memory);
         };
         match found {
@@ -311,6 +315,9 @@ fn expand_call(
     ensures hidden { OnOk result (texts hidden.new.items ≡ texts hidden.old.items) }
     ensures within { length out.new.items ≤ limit }
 {
+    let Ok(()) = spend(work, arguments.count) else {
+        return Err(Pre::Memory);
+    };
     let lists = match expand_arguments(
         alloc,
         macros,
@@ -343,14 +350,4 @@ fn expand_call(
         out,
         limit,
     )
-}
-
-/// The parameters of a macro, none where it takes no list of them.
-fn parameters_of(m: &Macro) -> &[Vec<u8>]
-    ensures { texts result.now ≡ parameters_of m.now.parameters }
-{
-    match &m.parameters {
-        Some(parameters) => parameters.as_slice(),
-        None => &[],
-    }
 }

@@ -2,6 +2,9 @@ use Rattle.std.proofs.Common.{◌≤◌, ◌-◌, ◌++◌, List, [], ◌∷◌,
 use Rattle.std.proofs.lemmas.List.{length-map}
 use Rattle.glsl_tree.specs.Token.{PlainToken, plain, plain_tokens}
 use Rattle.glsl_preproc.specs.Replacement.{Outcome, End, Kept, LineNumber, Object, Call, WrongCount, use_of, line_number, list_from, expanded, object_outcome, call_outcome, expanded_arguments}
+use Rattle.glsl_tree.specs.declared.token.Token.{Token}
+use Rattle.glsl_preproc.specs.LoneClosers.{AreCounts}
+use Rattle.glsl_preproc.proofs.LoneClosers.{no_counts, counts_behind}
 use Rattle.glsl_preproc.specs.Views.{plain_macro, plain_macros, texts, lists, parameters_of, use_view, Expands, ExpandsArguments, argument_error}
 use Rattle.glsl_preproc.specs.declared.errors.Pre.{Pre}
 use Rattle.glsl_preproc.proofs.Items.{some_items, none_left, at_first, at_none}
@@ -14,7 +17,13 @@ expand_list-loop-rest-init t c = record {
   hidden = refl;
   within = c.requires;
   levels = omega arith;
+  counts = no_counts _ _ c.new-brackets.ensures;
 }
+
+pub expand_list-use_of-requires : goal.expand_list-use_of-requires
+expand_list-use_of-requires t c =
+    let P : List Token → Type 0 = λ l. AreCounts c.loop-rest.brackets.counts.items (plain_tokens l) in
+    subst P (sym c.split_at.ensures.back) (counts_behind _ 1 c.loop-rest.rest.now c.loop-rest.invariant.counts)
 
 pub expand_list-loop-rest-preserved-in-Ok-push_within : goal.expand_list-loop-rest-preserved-in-Ok-push_within
 expand_list-loop-rest-preserved-in-Ok-push_within t c =
@@ -33,6 +42,7 @@ expand_list-loop-rest-preserved-in-Ok-push_within t c =
       hidden = c.loop-rest.invariant.hidden;
       within = c.in-Ok-push_within.ensures.within c.loop-rest.invariant.within;
       levels = c.loop-rest.invariant.levels;
+      counts = c.in-Ok-use_of.ensures.counts;
     }
 
 pub expand_list-returns-in-Err-clause-outcome : goal.expand_list-returns-in-Err-clause-outcome
@@ -67,6 +77,7 @@ expand_list-loop-rest-preserved-in-Ok-push_within-2 t c =
       hidden = c.loop-rest.invariant.hidden;
       within = c.in-Ok-push_within-2.ensures.within c.loop-rest.invariant.within;
       levels = c.loop-rest.invariant.levels;
+      counts = c.in-Ok-use_of.ensures.counts;
     }
 
 pub expand_list-returns-in-Err-push_within-clause-outcome : goal.expand_list-returns-in-Err-push_within-clause-outcome
@@ -112,6 +123,7 @@ expand_list-loop-rest-preserved-in-Ok-expand_object t c =
       hidden = c.in-Ok-expand_object.ensures.hidden ∙ c.loop-rest.invariant.hidden;
       within = c.in-Ok-expand_object.ensures.within;
       levels = c.loop-rest.invariant.levels;
+      counts = c.in-Ok-use_of.ensures.counts;
     }
 
 pub expand_list-returns-in-Err-expand_object-clause-outcome : goal.expand_list-returns-in-Err-expand_object-clause-outcome
@@ -159,6 +171,7 @@ expand_list-loop-rest-preserved t c =
     let k = c.in-Call.arguments.count in
     let some = some_items rest _ c.is_empty.ensures c.loop-rest-test.true in
     let used = sym (ap use_view c.in-Call.is) ∙ c.in-Ok-use_of.ensures.used ∙ (λ i. use_of macros (texts (c.as_slice.ensures.value i)) (plain x) (plain_tokens (c.split_at.ensures.back i))) in
+    let Q : List Token → Type 0 = λ l. AreCounts c.use_of.new.brackets.counts.items (plain_tokens l) in
     record {
       rest = (λ i. list_from (expanded n macros) macros (c.in-Ok-expand_call.ensures.hidden i) (plain_tokens c.expand_call.new.out.items) 0 (plain_tokens (c.split_at-in-Ok-expand_call.ensures.back i)))
           ∙ ap (λ l. list_from (expanded n macros) macros hidden (plain_tokens c.expand_call.new.out.items) 0 (plain_tokens (drop k l))) c.split_at.ensures.back
@@ -168,6 +181,7 @@ expand_list-loop-rest-preserved t c =
       hidden = c.in-Ok-expand_call.ensures.hidden ∙ c.loop-rest.invariant.hidden;
       within = c.in-Ok-expand_call.ensures.within;
       levels = c.loop-rest.invariant.levels;
+      counts = subst Q (sym c.split_at-in-Ok-expand_call.ensures.back) (counts_behind _ k c.split_at.result.1.now c.in-Ok-use_of.ensures.counts);
     }
 
 pub expand_list-returns-clause-outcome : goal.expand_list-returns-clause-outcome

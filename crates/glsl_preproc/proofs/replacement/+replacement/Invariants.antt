@@ -1,6 +1,7 @@
 use Rattle.std.proofs.Common.{◌+◌, ◌*◌, ◌≡◌, ◌≤◌, [], length}
 use Rattle.glsl_tree.specs.Token.{plain_tokens}
 use Rattle.glsl_preproc.specs.Replacement.{expanded, list_from, expanded_arguments}
+use Rattle.glsl_preproc.specs.LoneClosers.{AreCounts}
 use Rattle.glsl_preproc.specs.Views.{plain_macros, texts, lists}
 use Rattle.glsl_preproc.proofs.replacement.+replacement.Given as goal
 
@@ -27,6 +28,7 @@ invariant-expand_list-loop-rest l = record {
   hidden : texts l.hidden.items ≡ texts l.fn.hidden.items;
   within : length l.out.items ≤ l.limit;
   levels : l.below + 1 ≡ l.levels;
+  counts : AreCounts l.brackets.counts.items (plain_tokens l.rest);
 }
 
 abbrev pub decreases-expand_list-loop-rest : goal.decreases-expand_list-loop-rest

@@ -3,7 +3,7 @@ use Rattle.glsl_tree.specs.Token.{plain_tokens}
 use Rattle.glsl_preproc.specs.Expansion.{stray_hash}
 use Rattle.glsl_preproc.proofs.Items.{some_items, none_left}
 use Rattle.glsl_preproc.proofs.Lines.{stray_found, stray_next, stray_none}
-use Rattle.glsl_preproc.proofs.reader.stray_hash.Goals as goal
+use Rattle.glsl_preproc.proofs.hashes.stray_hash.Goals as goal
 
 pub returns-then-is_hash : goal.returns-then-is_hash
 returns-then-is_hash c = sym (stray_found c.loop-rest.rest.now c.index-rest-0.result (some_items _ _ c.is_empty.ensures c.loop-rest-test.true) c.index-rest-0.is (sym c.is_hash.ensures ∙ c.if-is_hash.true)) ∙ c.loop-rest.invariant
