@@ -1,3 +1,12 @@
+pub mod Fronts
+pub mod MoreLevels
+pub mod MoreConditions
+pub mod Keeping
+pub mod MoreLines
+pub mod OneExpansion
+pub mod TextMacros
+pub mod TextLines
+pub mod SourceText
 pub mod Items
 pub mod Same
 pub mod Fitting

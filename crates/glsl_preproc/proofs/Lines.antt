@@ -10,7 +10,7 @@ use Rattle.glsl_preproc.specs.Replacement.{Outcome, End, Whole, Failed, Deeper, 
 use Rattle.glsl_preproc.specs.Conditions.{Judged, Yes, No, Fails, Unknown, condition}
 use Rattle.glsl_preproc.specs.Directives.{kind_of, is_hash_token, after_define, after_undef, asked_defined, is_version, is_extension, are_line_numbers}
 use Rattle.glsl_preproc.specs.Expansion.{State, Step, Next, Stop, failing, unknown, flushed, flushed_by, and_then, with_macros, unless, opened_if, opened_ifdef, with_part, elif_judged, elif_of, elif_step, other_part, else_step, endif_step, line_step, directive_step, acting, directive, failing_hash, behind_name, stray_hash, before_hash, skipping_inner, skipping_outer, skipping, text_step, not_fresh, read_step, skipped_step, line_of, is_read, outermost, ended_in, outcome_of, finished, is_line_end, lines_from, at_start, expansion}
-use Rattle.glsl_preproc.specs.ReaderViews.{step_tokens, Steps, Finishes, Answers}
+use Rattle.glsl_preproc.specs.ReaderViews.{step_tokens, Steps, Finishes}
 use Rattle.glsl_preproc.specs.declared.conditionals.Part.{Part}
 use Rattle.glsl_preproc.specs.declared.conditionals.Part.TheVariants.{Taken, Waiting, Passed}
 use Rattle.glsl_preproc.specs.declared.conditionals.Conditional.{Conditional}
@@ -331,12 +331,6 @@ at_place count rest x h e = ap plain_tokens (drop_more rest count x h ∙ ap (λ
 
 pub one_longer : (count : ℕ) (rest : List Token) (x : Token) → count < length rest → x ≡ get_or rest count x → plain_tokens (take (count + 1) rest) ≡ plain_tokens (take count rest) ++ plain x ∷ []
 one_longer count rest x h e = ap plain_tokens (take_more rest count x h ∙ ap (λ y. take count rest ++ y ∷ []) (sym e)) ∙ map_push plain (take count rest) x
-
--- The answer, from how the expansion finishes.
-pub err_answer : (n : ℕ) (source new : List PlainToken) (o : Outcome) (e : Pre) → o ≡ expansion n source → length new ≤ 131072 → Finishes o new (Err e) → Answers source (Err e)
-err_answer n source new o (pre.Directive line) w h f = (new, (n, sym w ∙ f), h)
-err_answer n source new o pre.TooLong w h f = (n, let P : Outcome → Type 0 = λ x. 131072 < length x.tokens in subst P w f)
-err_answer n source new o pre.Memory w h f = tt
 
 pub first_or : (cs : List Conditional) (d : Conditional) → 0 < length cs → get_or cs 0 d ≡ get_or cs 0 (get_or cs 0 d)
 first_or [] d h = absurd (omega arith)
