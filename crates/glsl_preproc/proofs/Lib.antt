@@ -5,6 +5,7 @@ pub mod Keeping
 pub mod MoreLines
 pub mod OneExpansion
 pub mod TextMacros
+pub mod TextDefinitions
 pub mod TextLines
 pub mod SourceText
 pub mod Items
