@@ -1,11 +1,11 @@
 -- Lists that begin with others, and the expansions, which begin with the tokens before them.
-use Rattle.std.proofs.Common.{◌≡◌, ◌++◌, ℕ, zero, suc, List, [], ◌∷◌, Result, Ok, Err, refl, sym, ap, ◌∙◌, subst}
+use Rattle.std.proofs.Common.{◌++◌, ℕ, zero, suc, List, [], ◌∷◌, Result, Ok, Err, refl, sym, ap, ◌∙◌, subst}
 use Rattle.std.proofs.lemmas.List.{append-nil, append_assoc}
 use Rattle.glsl_tree.specs.Token.{PlainToken}
 use Rattle.glsl_preproc.specs.Macros.{PlainMacro}
-use Rattle.glsl_preproc.specs.Replacement.{Outcome, End, Whole, Failed, Deeper, ended, Use, Kept, LineNumber, Object, Call, WrongCount, use_of, line_number, at_line, list_from, expanded, object_outcome, call_outcome, called_with, expanded_arguments, substituted}
+use Rattle.glsl_preproc.specs.Replacement.{Outcome, End, Whole, Failed, Deeper, Use, Kept, LineNumber, Object, Call, WrongCount, use_of, line_number, at_line, list_from, expanded, object_outcome, call_outcome, called_with, expanded_arguments, substituted}
 use Rattle.glsl_preproc.specs.Levels.{IsFront}
-use Rattle.glsl_preproc.proofs.Expanding.{Below, behind, stepped}
+use Rattle.glsl_preproc.proofs.Expanding.{Below, behind, stepped, step_is}
 
 pub front_self : (list : List PlainToken) → IsFront list list
 front_self list = ([], sym (append-nil list))
@@ -15,32 +15,6 @@ front_push list more = (more, refl)
 
 pub front_then : (first second third : List PlainToken) → IsFront first second → IsFront second third → IsFront first third
 front_then first second third f s = (f.0 ++ s.0, s.1 ∙ ap (λ l. l ++ s.0) f.1 ∙ append_assoc first f.0 s.0)
-
--- the step at the first token of a list
-pub list_step : (below : Below) (macros : List PlainMacro) (hidden : List (List ℕ)) (done : List PlainToken) (t : PlainToken) (rest : List PlainToken) → list_from below macros hidden done 0 (t ∷ rest) ≡ stepped below macros hidden done t rest (use_of macros hidden t rest)
-unfolding list_from
-list_step below macros hidden done t rest = by_use (use_of macros hidden t rest)
-  where
-    by_use : (u : Use) → elim u [
-      | Kept ↦ list_from below macros hidden (done ++ t ∷ []) 0 rest
-      | LineNumber ↦ list_from below macros hidden (done ++ line_number t ∷ []) 0 rest
-      | WrongCount ↦ ended done (Failed t.line)
-      | Object m ↦ elim ((object_outcome below hidden done t m).end) [
-        | Whole ↦ list_from below macros hidden (object_outcome below hidden done t m).tokens 0 rest
-        | Failed line ↦ object_outcome below hidden done t m
-        | Deeper ↦ object_outcome below hidden done t m
-      ]
-      | Call m parameters arguments n ↦ elim ((call_outcome below hidden done t m parameters arguments).end) [
-        | Whole ↦ list_from below macros hidden (call_outcome below hidden done t m parameters arguments).tokens n rest
-        | Failed line ↦ call_outcome below hidden done t m parameters arguments
-        | Deeper ↦ call_outcome below hidden done t m parameters arguments
-      ]
-    ] ≡ stepped below macros hidden done t rest u
-    by_use Kept = refl
-    by_use LineNumber = refl
-    by_use WrongCount = refl
-    by_use (Object m) = refl
-    by_use (Call m parameters arguments n) = refl
 
 -- An expansion begins with the tokens before it.
 abbrev pub Begins : Below → Type 0
@@ -66,7 +40,7 @@ pub list_begins : (below : Below) (macros : List PlainMacro) (hidden : List (Lis
 unfolding list_from
 list_begins below macros hidden [] h done k = front_self done
 list_begins below macros hidden (t ∷ rest) h done (suc k) = list_begins below macros hidden rest h done k
-list_begins below macros hidden (t ∷ rest) h done zero = let P : Outcome → Type 0 = λ o. IsFront done o.tokens in subst P (sym (list_step below macros hidden done t rest)) (by_use (λ d n. list_begins below macros hidden rest h d n) (use_of macros hidden t rest))
+list_begins below macros hidden (t ∷ rest) h done zero = let P : Outcome → Type 0 = λ o. IsFront done o.tokens in subst P (sym (step_is below macros hidden done t rest)) (by_use (λ d n. list_begins below macros hidden rest h d n) (use_of macros hidden t rest))
   where
     by_use : ((d : List PlainToken) (n : ℕ) → IsFront d (list_from below macros hidden d n rest).tokens) → (u : Use) → IsFront done (stepped below macros hidden done t rest u).tokens
     by_use goes Kept = front_then done (done ++ t ∷ []) _ (front_push done (t ∷ [])) (goes (done ++ t ∷ []) 0)

@@ -14,11 +14,11 @@ use Rattle.glsl_preproc.specs.declared.kinds.Kind.{Kind}
 use Rattle.glsl_preproc.specs.declared.kinds.Kind.TheVariants as kind
 
 -- No step but an expansion changes the tokens.
-pub unless_keeps : (b : Bool) (s : State) (line : ℕ) → step_tokens (unless b s line) ≡ s.tokens
+unless_keeps : (b : Bool) (s : State) (line : ℕ) → step_tokens (unless b s line) ≡ s.tokens
 unless_keeps true s line = refl
 unless_keeps false s line = refl
 
-pub macros_keep : (s : State) (line : ℕ) (o : Option (List PlainMacro)) → step_tokens (with_macros s line o) ≡ s.tokens
+macros_keep : (s : State) (line : ℕ) (o : Option (List PlainMacro)) → step_tokens (with_macros s line o) ≡ s.tokens
 macros_keep s line None = refl
 macros_keep s line (Some macros) = refl
 
@@ -28,7 +28,7 @@ if_keeps s line No = refl
 if_keeps s line Fails = refl
 if_keeps s line Unknown = refl
 
-pub ifdef_keeps : (s : State) (line : ℕ) (wanted : Bool) (o : Option Bool) → step_tokens (opened_ifdef s line wanted o) ≡ s.tokens
+ifdef_keeps : (s : State) (line : ℕ) (wanted : Bool) (o : Option Bool) → step_tokens (opened_ifdef s line wanted o) ≡ s.tokens
 ifdef_keeps s line wanted None = refl
 ifdef_keeps s line wanted (Some found) = refl
 
@@ -38,25 +38,25 @@ judged_keeps s line c outer No = refl
 judged_keeps s line c outer Fails = refl
 judged_keeps s line c outer Unknown = refl
 
-pub elif_of_keeps : (n : ℕ) (s : State) (line : ℕ) (list : List PlainToken) (c : Conditional) (outer : List Conditional) (p : Part) → step_tokens (elif_of n s line list c outer p) ≡ s.tokens
+elif_of_keeps : (n : ℕ) (s : State) (line : ℕ) (list : List PlainToken) (c : Conditional) (outer : List Conditional) (p : Part) → step_tokens (elif_of n s line list c outer p) ≡ s.tokens
 elif_of_keeps n s line list c outer Waiting = judged_keeps s line c outer (condition n s.macros list)
 elif_of_keeps n s line list c outer Taken = refl
 elif_of_keeps n s line list c outer Passed = refl
 
-pub chosen_keeps : (b : Bool) (s : State) (line : ℕ) (other : Step) → step_tokens other ≡ s.tokens → step_tokens (cond b (failing s line) other) ≡ s.tokens
+chosen_keeps : (b : Bool) (s : State) (line : ℕ) (other : Step) → step_tokens other ≡ s.tokens → step_tokens (cond b (failing s line) other) ≡ s.tokens
 chosen_keeps true s line other h = refl
 chosen_keeps false s line other h = h
 
-pub elif_keeps : (n : ℕ) (s : State) (line : ℕ) (list : List PlainToken) (cs : List Conditional) → step_tokens (elif_step n s line list cs) ≡ s.tokens
+elif_keeps : (n : ℕ) (s : State) (line : ℕ) (list : List PlainToken) (cs : List Conditional) → step_tokens (elif_step n s line list cs) ≡ s.tokens
 elif_keeps n s line list [] = refl
 elif_keeps n s line list (c ∷ outer) = chosen_keeps c.closing s line (elif_of n s line list c outer c.part) (elif_of_keeps n s line list c outer c.part)
 
-pub else_keeps : (s : State) (line : ℕ) (list : List PlainToken) (cs : List Conditional) → step_tokens (else_step s line list cs) ≡ s.tokens
+else_keeps : (s : State) (line : ℕ) (list : List PlainToken) (cs : List Conditional) → step_tokens (else_step s line list cs) ≡ s.tokens
 else_keeps s line (t ∷ list) cs = refl
 else_keeps s line [] [] = refl
 else_keeps s line [] (c ∷ outer) = chosen_keeps c.closing s line (with_part s c outer (other_part c.part) true) refl
 
-pub endif_keeps : (s : State) (line : ℕ) (list : List PlainToken) (cs : List Conditional) → step_tokens (endif_step s line list cs) ≡ s.tokens
+endif_keeps : (s : State) (line : ℕ) (list : List PlainToken) (cs : List Conditional) → step_tokens (endif_step s line list cs) ≡ s.tokens
 endif_keeps s line (t ∷ list) cs = refl
 endif_keeps s line [] [] = refl
 endif_keeps s line [] (c ∷ outer) = refl
@@ -69,7 +69,7 @@ line_keeps s line o = by_end o.end
     by_end (Failed at) = refl
     by_end Deeper = refl
 
-pub step_keeps : (n : ℕ) (s : State) (line : ℕ) (k : Kind) (list : List PlainToken) (fresh : Bool) → step_tokens (directive_step n s line k list fresh) ≡ s.tokens
+step_keeps : (n : ℕ) (s : State) (line : ℕ) (k : Kind) (list : List PlainToken) (fresh : Bool) → step_tokens (directive_step n s line k list fresh) ≡ s.tokens
 unfolding directive_step
 step_keeps n s line kind.Empty list fresh = refl
 step_keeps n s line kind.Define list fresh = macros_keep s line (after_define s.macros list)
@@ -87,7 +87,7 @@ step_keeps n s line kind.Version list fresh = unless_keeps (not (fresh && is_ver
 step_keeps n s line kind.Line list fresh = line_keeps s line (expanded n s.macros [] [] list)
 step_keeps n s line kind.Unknown list fresh = refl
 
-pub acting_keeps : (n line : ℕ) (k : Kind) (list : List PlainToken) (fresh : Bool) (o : Option ℕ) (s : State) → step_tokens (acting n line k list fresh o s) ≡ s.tokens
+acting_keeps : (n line : ℕ) (k : Kind) (list : List PlainToken) (fresh : Bool) (o : Option ℕ) (s : State) → step_tokens (acting n line k list fresh o s) ≡ s.tokens
 acting_keeps n line k list fresh (Some at) s = refl
 acting_keeps n line k list fresh None s = step_keeps n s line k (behind_name list) fresh
 
@@ -99,7 +99,7 @@ pub not_fresh_keeps : (step : Step) → step_tokens (not_fresh step) ≡ step_to
 not_fresh_keeps (Next s) = refl
 not_fresh_keeps (Stop o) = refl
 
-pub inner_keeps : (s : State) (k : Kind) → step_tokens (skipping_inner s k) ≡ s.tokens
+inner_keeps : (s : State) (k : Kind) → step_tokens (skipping_inner s k) ≡ s.tokens
 inner_keeps s kind.If = refl
 inner_keeps s kind.Ifdef = refl
 inner_keeps s kind.Ifndef = refl
@@ -116,7 +116,7 @@ inner_keeps s kind.Version = refl
 inner_keeps s kind.Line = refl
 inner_keeps s kind.Unknown = refl
 
-pub outer_keeps : (n : ℕ) (s : State) (line : ℕ) (list : List PlainToken) (k : Kind) → step_tokens (skipping_outer n s line list k) ≡ s.tokens
+outer_keeps : (n : ℕ) (s : State) (line : ℕ) (list : List PlainToken) (k : Kind) → step_tokens (skipping_outer n s line list k) ≡ s.tokens
 outer_keeps n s line list kind.Elif = directive_keeps n s line list false
 outer_keeps n s line list kind.Else = directive_keeps n s line list false
 outer_keeps n s line list kind.Endif = directive_keeps n s line list false

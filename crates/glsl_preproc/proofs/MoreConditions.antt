@@ -1,5 +1,5 @@
 -- More levels of nesting: what they change in the expression of an `#if`.
-use Rattle.std.proofs.Common.{◌≡◌, ◌≤◌, ◌+◌, ℕ, ℤ, zero, suc, Bool, true, false, cond, List, [], ◌∷◌, Option, Some, None, codes, refl, sym, ap, subst, arith}
+use Rattle.std.proofs.Common.{◌≤◌, ◌+◌, ℕ, ℤ, zero, suc, Bool, true, false, cond, List, [], ◌∷◌, Option, Some, None, codes, refl, sym, ap, subst, arith}
 use Rattle.glsl_tree.specs.Token.{PlainToken}
 use Rattle.glsl_preproc.specs.Macros.{PlainMacro, is_text}
 use Rattle.glsl_preproc.specs.Replacement.{Outcome, End, Whole, Failed, Deeper, ended, opens, expanded}
@@ -7,7 +7,7 @@ use Rattle.glsl_preproc.specs.Values.{applied, operator_of, negated, complemente
 use Rattle.glsl_preproc.specs.Conditions.{Parsed, Read, Wrong, TooDeep, in_brackets, behind_sign, same_value, primary_of, operand_at, at_level, chain_from, chain_behind, expression_at, operand_within, Judged, Yes, No, Fails, Unknown, judged, judged_outcome, judged_answered, answered_from, condition}
 use Rattle.glsl_preproc.specs.Levels.{ExtendsAt, ExtendsParsed, ExtendsJudged}
 use Rattle.glsl_preproc.specs.declared.operators.Operator.{Operator}
-use Rattle.glsl_preproc.proofs.Expressions.{Reads, chained, chain_step}
+use Rattle.glsl_preproc.proofs.Expressions.{Reads, chained, chain_step, step_is}
 use Rattle.glsl_preproc.proofs.MoreLevels.{expanded_grows}
 
 parsed_self : (p : Parsed) → ExtendsParsed p p
@@ -52,30 +52,6 @@ operand_grows less_inner more_inner less more inner operand (t ∷ rest) = by_te
     by_tests false false false false true = sign_grows inverted (less rest) (more rest) (operand rest)
     by_tests false false false false false = parsed_self (primary_of t.class t.text)
 
-chain_first : (operand : Reads) (level : ℕ) (v : Option ℤ) (count : ℕ) (t : PlainToken) (rest : List PlainToken) → chain_from operand level v count 0 (t ∷ rest) ≡ chain_step operand level v count rest (at_level level (operator_of t.text))
-unfolding chain_from
-chain_first operand level v count t rest = by_operator (at_level level (operator_of t.text))
-  where
-    by_operand : (op : Operator) (p : Parsed) → elim p [
-      | Read w n ↦ chain_from operand level (applied op v w) (count + 1 + n) n rest
-      | Wrong ↦ Wrong
-      | TooDeep ↦ TooDeep
-    ] ≡ chained operand level v count rest op p
-    by_operand op (Read w n) = refl
-    by_operand op Wrong = refl
-    by_operand op TooDeep = refl
-
-    by_operator : (o : Option Operator) → elim o [
-      | None ↦ Read v count
-      | Some op ↦ elim (operand rest) [
-        | Read w n ↦ chain_from operand level (applied op v w) (count + 1 + n) n rest
-        | Wrong ↦ Wrong
-        | TooDeep ↦ TooDeep
-      ]
-    ] ≡ chain_step operand level v count rest o
-    by_operator None = refl
-    by_operator (Some op) = by_operand op (operand rest)
-
 chain_grows : (less more : Reads) (level : ℕ) → ReadsMore less more → (list : List PlainToken) (v : Option ℤ) (count k : ℕ) → ExtendsParsed (chain_from less level v count k list) (chain_from more level v count k list)
 unfolding chain_from
 chain_grows less more level h [] v count k = refl
@@ -83,7 +59,7 @@ chain_grows less more level h (t ∷ rest) v count (suc k) = chain_grows less mo
 chain_grows less more level h (t ∷ rest) v count zero =
     let P : Parsed → Type 0 = λ p. ExtendsParsed p (chain_from more level v count 0 (t ∷ rest)) in
     let Q : Parsed → Type 0 = λ p. ExtendsParsed (chain_step less level v count rest (at_level level (operator_of t.text))) p in
-    subst P (sym (chain_first less level v count t rest)) (subst Q (sym (chain_first more level v count t rest)) (by_operator (λ w c n. chain_grows less more level h rest w c n) (at_level level (operator_of t.text))))
+    subst P (sym (step_is less level v count t rest)) (subst Q (sym (step_is more level v count t rest)) (by_operator (λ w c n. chain_grows less more level h rest w c n) (at_level level (operator_of t.text))))
   where
     Goes : Type 0
     Goes = (w : Option ℤ) (c n : ℕ) → ExtendsParsed (chain_from less level w c n rest) (chain_from more level w c n rest)

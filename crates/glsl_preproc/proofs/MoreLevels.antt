@@ -4,8 +4,8 @@ use Rattle.glsl_tree.specs.Token.{PlainToken}
 use Rattle.glsl_preproc.specs.Macros.{PlainMacro}
 use Rattle.glsl_preproc.specs.Replacement.{Outcome, End, Whole, Failed, Deeper, ended, Use, Kept, LineNumber, Object, Call, WrongCount, use_of, line_number, at_line, list_from, expanded, object_outcome, call_outcome, called_with, expanded_arguments, substituted}
 use Rattle.glsl_preproc.specs.Levels.{IsFront, ExtendsAt, Extends, ExtendsArguments}
-use Rattle.glsl_preproc.proofs.Expanding.{Below, behind, stepped}
-use Rattle.glsl_preproc.proofs.Fronts.{Begins, front_self, front_then, list_step, behind_begins, call_begins, list_begins, expanded_begins}
+use Rattle.glsl_preproc.proofs.Expanding.{Below, behind, stepped, step_is}
+use Rattle.glsl_preproc.proofs.Fronts.{Begins, front_self, front_then, behind_begins, call_begins, list_begins, expanded_begins}
 
 pub extends_self : (o : Outcome) → Extends o o
 extends_self o = by_end o.end
@@ -58,7 +58,7 @@ list_grows less more macros hidden h b (t ∷ rest) done (suc k) = list_grows le
 list_grows less more macros hidden h b (t ∷ rest) done zero =
     let P : Outcome → Type 0 = λ o. Extends o (list_from more macros hidden done 0 (t ∷ rest)) in
     let Q : Outcome → Type 0 = λ o. Extends (stepped less macros hidden done t rest (use_of macros hidden t rest)) o in
-    subst P (sym (list_step less macros hidden done t rest)) (subst Q (sym (list_step more macros hidden done t rest)) (by_use (λ d n. list_grows less more macros hidden h b rest d n) (use_of macros hidden t rest)))
+    subst P (sym (step_is less macros hidden done t rest)) (subst Q (sym (step_is more macros hidden done t rest)) (by_use (λ d n. list_grows less more macros hidden h b rest d n) (use_of macros hidden t rest)))
   where
     by_use : ((d : List PlainToken) (n : ℕ) → Extends (list_from less macros hidden d n rest) (list_from more macros hidden d n rest)) → (u : Use) → Extends (stepped less macros hidden done t rest u) (stepped more macros hidden done t rest u)
     by_use goes Kept = goes (done ++ t ∷ []) 0

@@ -12,7 +12,8 @@ use Rattle.glsl_tree.specs.declared.token.Class.{Class}
 use Rattle.glsl_tree.specs.declared.token.Class.TheVariants.{Identifier, Keyword, Int, Float, Punct, Hash, NewLine, Params}
 use Rattle.glsl_preproc.specs.Macros.{is_text, is_name_token}
 use Rattle.glsl_preproc.specs.Directives.{is_hash_token, is_params}
-use Rattle.glsl_preproc.specs.TextTokens.{defining, defining_at_end, are_params_behind, ParamsBehindDefine}
+use Rattle.glsl_preproc.specs.TextTokens.{defining, are_params_behind, ParamsBehindDefine}
+use Rattle.glsl_preproc.proofs.TextDefinitions.{defining_at_end}
 
 -- a token `define` is a name
 abbrev NamesDefine : Class → List ℕ → Type 0

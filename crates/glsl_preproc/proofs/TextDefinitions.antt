@@ -8,7 +8,7 @@ use Rattle.glsl_tree.specs.declared.token.Class.TheVariants.{Identifier, Keyword
 use Rattle.glsl_preproc.specs.Macros.{PlainMacro, is_text, is_name_token, is_reserved, find_macro, same_macro}
 use Rattle.glsl_preproc.specs.Directives.{is_hash_token, is_params, parameters_at, with_parameters, macro_of, definition_of, defined_again, with_macro, after_define, after_undef}
 use Rattle.glsl_preproc.specs.Expansion.{stray_hash, before_hash, is_line_end}
-use Rattle.glsl_preproc.specs.TextTokens.{IsTextToken, defining, defining_at_end, are_params_behind}
+use Rattle.glsl_preproc.specs.TextTokens.{IsTextToken, defining, are_params_behind}
 use Rattle.glsl_preproc.proofs.Ways.{two_ways}
 use Rattle.glsl_preproc.proofs.TextMacros.{IsText, HasTextBody, AreTextMacros}
 
@@ -175,6 +175,11 @@ undef_text macros (t ∷ []) m = by_name (is_name_token t && not (is_reserved t.
     by_name true = All-filter (λ k. not (bytes_eq k.name t.text)) HasTextBody macros m
     by_name false = tt
 undef_text macros (t ∷ u ∷ rest) m = tt
+
+-- how many of `#`, `define` and a name stand at the end of a list
+unfoldable pub defining_at_end : ℕ → List PlainToken → ℕ
+defining_at_end k [] = k
+defining_at_end k (t ∷ rest) = defining_at_end (defining k t) rest
 
 -- Lists one behind the other.
 pub fits_parts : (k : ℕ) (line rest : List PlainToken) → Fits k (line ++ rest) → Fits k line × Fits (defining_at_end k line) rest

@@ -9,7 +9,7 @@ use Rattle.glsl_preproc.specs.Replacement.{Outcome, End, Whole, Failed, Deeper, 
 use Rattle.glsl_preproc.specs.Conditions.{Judged, Yes, No, Fails, Unknown, condition}
 use Rattle.glsl_preproc.specs.Directives.{kind_of, is_hash_token, definition_of, after_define, after_undef, asked_defined, is_version, is_extension, are_line_numbers}
 use Rattle.glsl_preproc.specs.Expansion.{State, Step, Next, Stop, failing, flushed, flushed_by, and_then, with_macros, unless, opened_if, opened_ifdef, with_part, elif_judged, elif_of, elif_step, other_part, else_step, endif_step, line_step, directive_step, acting, directive, failing_hash, behind_name, stray_hash, before_hash, skipping_inner, skipping_outer, skipping, text_step, not_fresh, read_step, skipped_step, line_of, is_read, ended_in, outcome_of, finished, is_line_end, lines_from, at_start, expansion}
-use Rattle.glsl_preproc.specs.TextTokens.{IsTextToken, defining, defining_at_end, ParamsBehindDefine}
+use Rattle.glsl_preproc.specs.TextTokens.{IsTextToken, defining, ParamsBehindDefine}
 use Rattle.glsl_preproc.specs.declared.conditionals.Part.{Part}
 use Rattle.glsl_preproc.specs.declared.conditionals.Part.TheVariants.{Taken, Waiting, Passed}
 use Rattle.glsl_preproc.specs.declared.conditionals.Conditional.{Conditional}
@@ -18,7 +18,7 @@ use Rattle.glsl_preproc.specs.declared.kinds.Kind.TheVariants as kind
 use Rattle.glsl_preproc.proofs.Ways.{two_ways}
 use Rattle.glsl_preproc.proofs.Lines.{last_behind, next_behind, lines_last, lines_next, lines_more}
 use Rattle.glsl_preproc.proofs.TextMacros.{IsText, HasTextBody, AreTextMacros, expansion_text}
-use Rattle.glsl_preproc.proofs.TextDefinitions.{Fits, IsNoHash, IsNoEnd, fits_first, behind_hash, line_text, no_hash, before_text, define_text, undef_text, fits_parts, defining_end}
+use Rattle.glsl_preproc.proofs.TextDefinitions.{Fits, IsNoHash, IsNoEnd, fits_first, behind_hash, line_text, no_hash, before_text, define_text, undef_text, defining_at_end, fits_parts, defining_end}
 
 -- Steps.
 abbrev IsTextState : State → Type 0

@@ -6,8 +6,7 @@ use Rattle.glsl_tree.specs.Token.{PlainToken}
 use Rattle.glsl_preproc.specs.Macros.{PlainMacro, is_text, is_name_token, find_macro}
 use Rattle.glsl_preproc.specs.Replacement.{Outcome, End, Whole, Failed, Deeper, ended, opens, closes, is_comma, arguments_from, fits_parameters, Use, Kept, LineNumber, Object, Call, WrongCount, called, used, used_macro, use_of, line_number, at_line, argument_of, argument_or, substituted, list_from, expanded, object_outcome, call_outcome, called_with, expanded_arguments}
 use Rattle.glsl_preproc.specs.TextTokens.{IsTextToken}
-use Rattle.glsl_preproc.proofs.Expanding.{Below, behind, stepped}
-use Rattle.glsl_preproc.proofs.Fronts.{list_step}
+use Rattle.glsl_preproc.proofs.Expanding.{Below, behind, stepped, step_is}
 use Rattle.glsl_preproc.proofs.MoreLevels.{more_arguments}
 
 abbrev pub IsText : List PlainToken → Type 0
@@ -157,7 +156,7 @@ list_text below macros hidden b m [] done k d h = d
 list_text below macros hidden b m (t ∷ rest) done (suc k) d h = list_text below macros hidden b m rest done k d (All-tail IsTextToken t rest h)
 list_text below macros hidden b m (t ∷ rest) done zero d h =
     let P : Outcome → Type 0 = λ o. IsText o.tokens in
-    subst P (sym (list_step below macros hidden done t rest)) (by_use (λ x n y. list_text below macros hidden b m rest x n y (All-tail IsTextToken t rest h)) (use_of macros hidden t rest) (use_text macros hidden t rest m (All-tail IsTextToken t rest h)))
+    subst P (sym (step_is below macros hidden done t rest)) (by_use (λ x n y. list_text below macros hidden b m rest x n y (All-tail IsTextToken t rest h)) (use_of macros hidden t rest) (use_text macros hidden t rest m (All-tail IsTextToken t rest h)))
   where
     by_use : ((x : List PlainToken) (n : ℕ) → IsText x → IsText (list_from below macros hidden x n rest).tokens) → (u : Use) → UseText u → IsText (stepped below macros hidden done t rest u).tokens
     by_use goes Kept y = goes (done ++ t ∷ []) 0 (All-push IsTextToken done t d (All-head IsTextToken t rest h))

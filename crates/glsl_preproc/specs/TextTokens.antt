@@ -23,11 +23,6 @@ defining k t =
     else (if k == 1 && is_name_token t && is_text (codes "define") t then 2
     else (if k == 2 && is_name_token t then 3 else 0))
 
--- the same of a list, up to its end
-unfoldable pub defining_at_end : ℕ → List PlainToken → ℕ
-defining_at_end k [] = k
-defining_at_end k (t ∷ rest) = defining_at_end (defining k t) rest
-
 -- whether each `(` of the class Params stands behind the three
 unfoldable pub are_params_behind : ℕ → List PlainToken → Bool
 are_params_behind k [] = true
