@@ -1,10 +1,10 @@
 -- A source has one expansion.
-use Rattle.std.proofs.Common.{◌≡◌, ◌<◌, ◌≤◌, ◌+◌, ℕ, List, length, Err, sym, ap, subst, ◌∙◌, arith}
+use Rattle.std.proofs.Common.{◌≡◌, ◌<◌, ◌≤◌, ◌+◌, ℕ, List, length, Err, refl, sym, ap, subst, ◌∙◌, arith}
 use Rattle.std.proofs.lemmas.List.{length-append}
 use Rattle.glsl_tree.specs.Token.{PlainToken}
 use Rattle.glsl_preproc.specs.Replacement.{Outcome, End, Whole, Failed, Deeper, ended}
 use Rattle.glsl_preproc.specs.Expansion.{expansion, Expansion, IsTooLong}
-use Rattle.glsl_preproc.specs.Levels.{IsFront, ExtendsAt, Extends}
+use Rattle.glsl_preproc.specs.Levels.{IsFront, ExtendsAt}
 use Rattle.glsl_preproc.specs.ReaderViews.{Finishes, Answers}
 use Rattle.glsl_preproc.specs.declared.errors.Pre.{Pre}
 use Rattle.glsl_preproc.specs.declared.errors.Pre.TheVariants as pre
@@ -33,13 +33,20 @@ expansion_front n m source h = by_end (expansion n source).tokens (expansion n s
     by_end tokens (Failed line) o g = let P : Outcome → Type 0 = λ x. IsFront tokens x.tokens in subst P (sym g) (front_self tokens)
     by_end tokens Deeper o g = g
 
--- An end that is come to with some number of levels is that of the expansion.
-pub whole_expansion : (n : ℕ) (source tokens : List PlainToken) → expansion n source ≡ ended tokens Whole → Expansion source tokens Whole
-whole_expansion n source tokens e = (n, λ m h. let P : Outcome → Type 0 = λ o. Extends o (expansion m source) in subst P e (expansion_grows n m source h))
+-- An expansion that comes to its end is the same with more levels.
+pub same_expansion : (n m : ℕ) (source : List PlainToken) → n ≤ m → ((expansion n source).end ≡ Deeper → ⊥) → expansion m source ≡ expansion n source
+same_expansion n m source h ends = by_end (expansion n source).tokens (expansion n source).end (expansion m source) ends (expansion_grows n m source h)
+  where
+    by_end : (tokens : List PlainToken) (e : End) (o : Outcome) → (e ≡ Deeper → ⊥) → ExtendsAt e (ended tokens e) o → o ≡ ended tokens e
+    by_end tokens Whole o f g = g
+    by_end tokens (Failed line) o f g = g
+    by_end tokens Deeper o f g = absurd (f refl)
 
-pub failed_expansion : (n : ℕ) (source tokens : List PlainToken) (line : ℕ) → expansion n source ≡ ended tokens (Failed line) → Expansion source tokens (Failed line)
-failed_expansion n source tokens line e = (n, λ m h. let P : Outcome → Type 0 = λ o. Extends o (expansion m source) in subst P e (expansion_grows n m source h))
+-- An end that an expansion comes to with some number of levels is that of the source.
+pub reached_expansion : (n : ℕ) (source tokens : List PlainToken) (e : End) → (e ≡ Deeper → ⊥) → expansion n source ≡ ended tokens e → Expansion source tokens e
+reached_expansion n source tokens e ends is = (n, λ m h. same_expansion n m source h (λ d. ends (sym (ap (λ o. o.end) is) ∙ d)) ∙ is)
 
+-- Too many tokens stay too many.
 pub long_expansion : (n : ℕ) (source : List PlainToken) → 131072 < length (expansion n source).tokens → IsTooLong source
 long_expansion n source long = (
   n,
@@ -51,6 +58,6 @@ long_expansion n source long = (
 
 -- The answer, from how the expansion finishes.
 pub err_answer : (n : ℕ) (source new : List PlainToken) (o : Outcome) (e : Pre) → o ≡ expansion n source → length new ≤ 131072 → Finishes o new (Err e) → Answers source (Err e)
-err_answer n source new o (pre.Directive line) w h f = (new, failed_expansion n source new line (sym w ∙ f), h)
+err_answer n source new o (pre.Directive line) w h f = (new, reached_expansion n source new (Failed line) (λ d. absurd cc) (sym w ∙ f), h)
 err_answer n source new o pre.TooLong w h f = long_expansion n source (let P : Outcome → Type 0 = λ x. 131072 < length x.tokens in subst P w f)
 err_answer n source new o pre.Memory w h f = tt

@@ -1,12 +1,13 @@
 use Rattle.std.proofs.Common.{◌≡◌, ◌<◌, ◌≤◌, ◌-◌, ◌+◌, List, [], Err, length, take, drop, sym, ap, subst, ◌∙◌, arith}
 use Rattle.std.proofs.lemmas.List.{length-map}
 use Rattle.glsl_tree.specs.Token.{plain, plain_tokens}
+use Rattle.glsl_preproc.specs.Replacement.{Whole}
 use Rattle.glsl_preproc.specs.Expansion.{lines_from, line_of, finished}
 use Rattle.glsl_tree.specs.declared.token.Token.{Token}
 use Rattle.glsl_preproc.specs.ReaderViews.{state_of, Steps}
 use Rattle.glsl_preproc.proofs.Items.{some_items, none_left}
 use Rattle.glsl_preproc.proofs.Lines.{at_begin, place_more, line_more, line_done, line_fails, last_line, err_last, ok_last}
-use Rattle.glsl_preproc.proofs.OneExpansion.{whole_expansion, err_answer}
+use Rattle.glsl_preproc.proofs.OneExpansion.{reached_expansion, err_answer}
 use Rattle.glsl_preproc.proofs.TextLines.{ok_text}
 use Rattle.glsl_preproc.proofs.run.expand.Goals as goal
 
@@ -104,7 +105,7 @@ returns-in-Ok-finish c =
     let source = plain_tokens c.args.tokens.now in
     let tokens = plain_tokens c.finish.new.self.tokens.items in
     record {
-      answer = (whole_expansion 1024 source tokens outcome, c.in-Ok-finish.ensures.within);
+      answer = (reached_expansion 1024 source tokens Whole (λ d. absurd cc) outcome, c.in-Ok-finish.ensures.within);
       text = ok_text 1024 source tokens outcome;
     }
 
