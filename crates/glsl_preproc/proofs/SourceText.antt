@@ -138,16 +138,24 @@ hash_false t h = by_class t.class h
     by_class NewLine e = refl
     by_class Params e = refl
 
+hash_begins : (k : ℕ) (t : PlainToken) → is_hash t.class ≡ true → defining k t ≡ 1
+unfolding defining
+hash_begins k t h = ap (λ x. cond x 1 (cond (eqb k 1 && is_name_token t && is_text (codes "define") t) 2 (cond (eqb k 2 && is_name_token t) 3 0))) (hash_true t h)
+
+define_follows : (t : PlainToken) → is_word t.class ≡ true → bytes_eq t.text (codes "define") ≡ true → defining 1 t ≡ 2
+unfolding defining
+define_follows t w h = ap (λ x. cond x 1 (cond (is_name_token t && is_text (codes "define") t) 2 0)) (hash_false t w) ∙ ap (λ x. cond x 2 0) (and_from (is_name_token t) (is_text (codes "define") t) w h)
+
+name_follows : (t : PlainToken) → is_word t.class ≡ true → defining 2 t ≡ 3
+unfolding defining
+name_follows t w = ap (λ x. cond x 1 (cond (is_name_token t) 3 0)) (hash_false t w) ∙ ap (λ x. cond x 3 0) w
+
 three_are : (k : ℕ) (a b c : PlainToken) → IsNamed b → is_definition (a ∷ b ∷ c ∷ []) ≡ true → defining (defining (defining k a) b) c ≡ 3
-unfolding is_definition defining
+unfolding is_definition
 three_are k a b c named h =
     let parts = and_parts (is_hash a.class && bytes_eq b.text (codes "define")) (is_word c.class) h in
     let first = and_parts (is_hash a.class) (bytes_eq b.text (codes "define")) parts.0 in
-    let word : is_word b.class ≡ true = named first.1 in
-    let one : defining k a ≡ 1 = ap (λ x. cond x 1 (cond (eqb k 1 && is_name_token a && is_text (codes "define") a) 2 (cond (eqb k 2 && is_name_token a) 3 0))) (hash_true a first.0) in
-    let two : defining 1 b ≡ 2 = ap (λ x. cond x 1 (cond (is_name_token b && is_text (codes "define") b) 2 0)) (hash_false b word) ∙ ap (λ x. cond x 2 0) (and_from (is_name_token b) (is_text (codes "define") b) word first.1) in
-    let three : defining 2 c ≡ 3 = ap (λ x. cond x 1 (cond (is_name_token c) 3 0)) (hash_false c parts.1) ∙ ap (λ x. cond x 3 0) parts.1 in
-    ap (λ j. defining (defining j b) c) one ∙ ap (λ j. defining j c) two ∙ three
+    ap (λ j. defining (defining j b) c) (hash_begins k a first.0) ∙ ap (λ j. defining j c) (define_follows b (named first.1) first.1) ∙ name_follows c parts.1
 
 three_behind : (k : ℕ) (tokens : List PlainToken) → All IsNamed tokens → is_definition (drop (length tokens - 3) tokens) ≡ true → defining_at_end k tokens ≡ 3
 unfolding is_definition defining_at_end
