@@ -39,7 +39,7 @@ stepped below macros hidden done t rest WrongCount = ended done (Failed t.line)
 stepped below macros hidden done t rest (Object m) = behind below macros hidden 0 rest (object_outcome below hidden done t m)
 stepped below macros hidden done t rest (Call m parameters arguments n) = behind below macros hidden n rest (call_outcome below hidden done t m parameters arguments)
 
-step_is : (below : Below) (macros : List PlainMacro) (hidden : List (List ℕ)) (done : List PlainToken) (t : PlainToken) (rest : List PlainToken) → list_from below macros hidden done 0 (t ∷ rest) ≡ stepped below macros hidden done t rest (use_of macros hidden t rest)
+pub step_is : (below : Below) (macros : List PlainMacro) (hidden : List (List ℕ)) (done : List PlainToken) (t : PlainToken) (rest : List PlainToken) → list_from below macros hidden done 0 (t ∷ rest) ≡ stepped below macros hidden done t rest (use_of macros hidden t rest)
 unfolding list_from
 step_is below macros hidden done t rest = by_use (use_of macros hidden t rest)
   where

@@ -44,7 +44,7 @@ abbrev pub chain_step : Reads → ℕ → Option ℤ → ℕ → List PlainToken
 chain_step operand level v count rest None = Read v count
 chain_step operand level v count rest (Some op) = chained operand level v count rest op (operand rest)
 
-step_is : (operand : Reads) (level : ℕ) (v : Option ℤ) (count : ℕ) (t : PlainToken) (rest : List PlainToken) → chain_from operand level v count 0 (t ∷ rest) ≡ chain_step operand level v count rest (at_level level (operator_of t.text))
+pub step_is : (operand : Reads) (level : ℕ) (v : Option ℤ) (count : ℕ) (t : PlainToken) (rest : List PlainToken) → chain_from operand level v count 0 (t ∷ rest) ≡ chain_step operand level v count rest (at_level level (operator_of t.text))
 unfolding chain_from
 step_is operand level v count t rest = by_operator (at_level level (operator_of t.text))
   where

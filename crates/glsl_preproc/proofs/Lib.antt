@@ -1,3 +1,13 @@
+pub mod Fronts
+pub mod MoreLevels
+pub mod MoreConditions
+pub mod Keeping
+pub mod MoreLines
+pub mod OneExpansion
+pub mod TextMacros
+pub mod TextDefinitions
+pub mod TextLines
+pub mod SourceText
 pub mod Items
 pub mod Same
 pub mod Fitting

@@ -1,5 +1,5 @@
 -- The expansion of a shader's tokens (GLSL ES 1.00.17 section 3.4).
-use Rattle.std.specs.Prelude.{◌≡◌, ℕ, ◌+◌, ◌-◌, ◌==◌, Bool, true, false, not, ◌&&◌, if◌then◌else◌, List, [], ◌∷◌, ◌++◌, Option, Some, None}
+use Rattle.std.specs.Prelude.{◌≡◌, ◌<◌, ◌≤◌, ℕ, ◌+◌, ◌-◌, ◌==◌, Bool, true, false, not, ◌&&◌, if◌then◌else◌, List, [], ◌∷◌, ◌++◌, length, Option, Some, None}
 use Rattle.glsl_tree.specs.Token.{PlainToken}
 use Rattle.glsl_tree.specs.declared.token.Class.{Class}
 use Rattle.glsl_tree.specs.declared.token.Class.TheVariants.{NewLine}
@@ -251,6 +251,10 @@ at_start = record { macros = first_macros; conditionals = []; skipped = 0; text 
 unfoldable pub expansion : ℕ → List PlainToken → Outcome
 expansion n tokens = lines_from n at_start [] tokens
 
--- the expansion is these tokens, up to this end
+-- the expansion is these tokens, up to this end: with some number of levels, and with any larger one
 abbrev pub Expansion : List PlainToken → List PlainToken → End → Type 0
-Expansion source tokens end = (n : ℕ) × (expansion n source ≡ ended tokens end)
+Expansion source tokens end = (n : ℕ) × ((m : ℕ) → n ≤ m → expansion m source ≡ ended tokens end)
+
+-- the expansion has more than 131,072 tokens: with some number of levels, and with any larger one
+abbrev pub IsTooLong : List PlainToken → Type 0
+IsTooLong source = (n : ℕ) × ((m : ℕ) → n ≤ m → 131072 < length (expansion m source).tokens)

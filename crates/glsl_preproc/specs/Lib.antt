@@ -1,3 +1,5 @@
+pub mod Levels
+pub mod TextTokens
 pub mod Macros
 pub mod Replacement
 pub mod LoneClosers

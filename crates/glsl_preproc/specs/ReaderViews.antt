@@ -1,10 +1,10 @@
 -- What the reader keeps, as the definitions see it.
 use Rattle.std.specs.declared.alloc.Global.{Global}
 use Rattle.glsl_tree.specs.declared.token.Token.{Token}
-use Rattle.std.specs.Prelude.{Vec, ℕ, ◌≡◌, ◌<◌, ◌≤◌, List, reverse, length, Result, Ok, Err}
+use Rattle.std.specs.Prelude.{Vec, ◌≡◌, ◌<◌, ◌≤◌, List, reverse, length, Result, Ok, Err}
 use Rattle.glsl_tree.specs.Token.{PlainToken, plain_tokens}
 use Rattle.glsl_preproc.specs.Replacement.{Outcome, Failed, Whole, ended}
-use Rattle.glsl_preproc.specs.Expansion.{State, Step, Next, Stop, expansion, Expansion}
+use Rattle.glsl_preproc.specs.Expansion.{State, Step, Next, Stop, Expansion, IsTooLong}
 use Rattle.glsl_preproc.specs.Views.{plain_macros}
 use Rattle.glsl_preproc.specs.declared.reader.Reader.{Reader}
 use Rattle.glsl_preproc.specs.declared.errors.Pre.{Pre}
@@ -43,5 +43,5 @@ Finishes o new (Err pre.Memory) = Unit {0}
 abbrev pub Answers : List PlainToken → Result (Vec Token Global) Pre → Type 0
 Answers source (Ok v) = Expansion source (plain_tokens v.items) Whole × (length v.items ≤ 131072)
 Answers source (Err (pre.Directive line)) = (done : List PlainToken) × Expansion source done (Failed line) × (length done ≤ 131072)
-Answers source (Err pre.TooLong) = (n : ℕ) × (131072 < length (expansion n source).tokens)
+Answers source (Err pre.TooLong) = IsTooLong source
 Answers source (Err pre.Memory) = Unit {0}

@@ -1,6 +1,7 @@
-ghost use Rattle.std.specs.Prelude.{◌≤◌, length};
+ghost use Rattle.std.specs.Prelude.{◌≤◌, length, All, IfOk};
 ghost use Rattle.glsl_tree.specs.Token.{plain_tokens};
 ghost use Rattle.glsl_preproc.specs.ReaderViews.{Answers};
+ghost use Rattle.glsl_preproc.specs.TextTokens.{IsTextToken, ParamsBehindDefine};
 
 use crate::errors::Pre;
 use crate::reader::Reader;
@@ -10,9 +11,11 @@ use std::alloc::Global;
 
 /// The tokens of a shader behind its directives and macros (GLSL ES 1.00.17 section 3.4). Unless memory is wanting,
 /// the answer is that of the definition: its tokens, the line at which it fails, or that it has more than 131,072
-/// tokens before it ends or fails.
+/// tokens before it ends or fails. The tokens of a source, whose `(` of the class `Params` stand behind `#`, `define`
+/// and a name, leave no token of the classes `Hash`, `NewLine` and `Params`.
 pub fn expand(alloc: Global, tokens: &[Token]) -> Result<Vec<Token>, Pre>
-    ensures { Answers (plain_tokens tokens.now) result }
+    ensures answer { Answers (plain_tokens tokens.now) result }
+    ensures text { ParamsBehindDefine (plain_tokens tokens.now) → IfOk result (λ out. All IsTextToken (plain_tokens out.items)) }
 {
     let Ok(mut reader) = Reader::new(alloc) else {
         return Err(Pre::Memory);

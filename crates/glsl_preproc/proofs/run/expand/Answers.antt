@@ -1,11 +1,14 @@
 use Rattle.std.proofs.Common.{◌≡◌, ◌<◌, ◌≤◌, ◌-◌, ◌+◌, List, [], Err, length, take, drop, sym, ap, subst, ◌∙◌, arith}
 use Rattle.std.proofs.lemmas.List.{length-map}
 use Rattle.glsl_tree.specs.Token.{plain, plain_tokens}
+use Rattle.glsl_preproc.specs.Replacement.{Whole}
 use Rattle.glsl_preproc.specs.Expansion.{lines_from, line_of, finished}
 use Rattle.glsl_tree.specs.declared.token.Token.{Token}
 use Rattle.glsl_preproc.specs.ReaderViews.{state_of, Steps}
 use Rattle.glsl_preproc.proofs.Items.{some_items, none_left}
-use Rattle.glsl_preproc.proofs.Lines.{at_begin, place_more, line_more, line_done, line_fails, last_line, err_last, ok_last, err_answer}
+use Rattle.glsl_preproc.proofs.Lines.{at_begin, place_more, line_more, line_done, line_fails, last_line, err_last, ok_last}
+use Rattle.glsl_preproc.proofs.OneExpansion.{reached_expansion, err_answer}
+use Rattle.glsl_preproc.proofs.TextLines.{ok_text}
 use Rattle.glsl_preproc.proofs.run.expand.Goals as goal
 
 pub loop-rest-init : goal.loop-rest-init
@@ -19,8 +22,8 @@ loop-rest-init c =
       tokens = c.in-Ok.ensures.within;
     }
 
-pub returns-in-Err : goal.returns-in-Err
-returns-in-Err c =
+pub returns-in-Err-clause-answer : goal.returns-in-Err-clause-answer
+returns-in-Err-clause-answer c =
     let start = c.loop-rest.start.now in
     let rest = c.loop-rest.rest.now in
     let k = length start - length rest in
@@ -75,8 +78,8 @@ loop-rest-preserved c =
       tokens = c.loop-rest.invariant.tokens;
     }
 
-pub returns-in-Err-line_of : goal.returns-in-Err-line_of
-returns-in-Err-line_of c =
+pub returns-in-Err-line_of-clause-answer : goal.returns-in-Err-line_of-clause-answer
+returns-in-Err-line_of-clause-answer c =
     let start = c.loop-rest.start.now in
     let rest = c.loop-rest.rest.now in
     let k = length start - length rest in
@@ -98,10 +101,16 @@ returns-in-Ok-finish c =
     let new = state_of c.line_of-2.new.self in
     let none : length rest ≡ 0 = none_left rest _ c.is_empty.ensures c.loop-rest-test.false in
     let whole = sym (last_line 1024 s start rest k none (omega arith)) ∙ c.loop-rest.invariant.rest in
-    ((1024, sym whole ∙ ok_last 1024 s new (plain_tokens start) c.in-Ok-line_of-2.ensures.step ∙ c.in-Ok-finish.ensures.outcome), c.in-Ok-finish.ensures.within)
+    let outcome = sym whole ∙ ok_last 1024 s new (plain_tokens start) c.in-Ok-line_of-2.ensures.step ∙ c.in-Ok-finish.ensures.outcome in
+    let source = plain_tokens c.args.tokens.now in
+    let tokens = plain_tokens c.finish.new.self.tokens.items in
+    record {
+      answer = (reached_expansion 1024 source tokens Whole (λ d. absurd cc) outcome, c.in-Ok-finish.ensures.within);
+      text = ok_text 1024 source tokens outcome;
+    }
 
-pub returns-in-Err-finish : goal.returns-in-Err-finish
-returns-in-Err-finish c =
+pub returns-in-Err-finish-clause-answer : goal.returns-in-Err-finish-clause-answer
+returns-in-Err-finish-clause-answer c =
     let start = c.loop-rest.start.now in
     let rest = c.loop-rest.rest.now in
     let k = length start - length rest in
