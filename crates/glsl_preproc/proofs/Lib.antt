@@ -10,6 +10,7 @@ pub mod TextLines
 pub mod SourceText
 pub mod Items
 pub mod Same
+pub mod Slots
 pub mod Fitting
 pub mod Arguments
 pub mod ArgumentLists

@@ -5,14 +5,13 @@ use Rattle.std.specs.Prelude.{Vec, ◌≡◌, ◌<◌, ◌≤◌, List, reverse,
 use Rattle.glsl_tree.specs.Token.{PlainToken, plain_tokens}
 use Rattle.glsl_preproc.specs.Replacement.{Outcome, Failed, Whole, ended}
 use Rattle.glsl_preproc.specs.Expansion.{State, Step, Next, Stop, Expansion, IsTooLong}
-use Rattle.glsl_preproc.specs.Views.{plain_macros}
 use Rattle.glsl_preproc.specs.declared.reader.Reader.{Reader}
 use Rattle.glsl_preproc.specs.declared.errors.Pre.{Pre}
 use Rattle.glsl_preproc.specs.declared.errors.Pre.TheVariants as pre
 
 abbrev pub state_of : Reader → State
 state_of r = record {
-  macros = plain_macros r.macros.items;
+  macros = r.macros;
   conditionals = reverse r.conditionals.items;
   skipped = r.skipped;
   text = plain_tokens r.text.items;

@@ -4,10 +4,10 @@ ghost use Rattle.std.specs.Str.{bytes_eq};
 ghost use Rattle.glsl_tree.specs.Token.{plain, plain_tokens};
 ghost use Rattle.glsl_preproc.specs.Replacement.{opens, closes, is_comma, arguments_from, fits_parameters, called, used, use_of};
 ghost use Rattle.glsl_preproc.specs.LoneClosers.{AreCounts};
-ghost use Rattle.glsl_preproc.specs.Views.{plain_macro, plain_macros, texts, found_of, lists, parameters_of, use_view, IsWithin};
+ghost use Rattle.glsl_preproc.specs.Views.{plain_macro, texts, found_of, lists, parameters_of, use_view, IsWithin};
 
 use crate::brackets::Brackets;
-use crate::macro_table::find_macro;
+use crate::macro_table::MacroTable;
 use crate::macros::Macro;
 use crate::tokens::{closes, is_comma, is_name, is_text, opens, push_copy, push_list};
 use glsl_tree::Token;
@@ -185,14 +185,14 @@ fn is_hidden(hidden: &[Vec<u8>], name: &[u8]) -> bool
 #[tactic(auto, unfolding(crate::specs::Replacement::use_of))]
 pub fn use_of<'a>(
     alloc: Global,
-    macros: &'a [Macro],
+    macros: &'a MacroTable,
     hidden: &[Vec<u8>],
     brackets: &mut Brackets,
     token: &Token,
     rest: &[Token],
 ) -> Result<Use<'a>, AllocError>
     requires { AreCounts brackets.old.counts.items (plain_tokens rest.now) }
-    ensures used { IfOk result (λ found. use_view found ≡ use_of (plain_macros macros.now) (texts hidden.now) (plain token.now) (plain_tokens rest.now)) }
+    ensures used { IfOk result (λ found. use_view found ≡ use_of macros.now (texts hidden.now) (plain token.now) (plain_tokens rest.now)) }
     ensures within { IfOk result (λ found. IsWithin (length rest.now) found) }
     ensures counts { OnOk result (AreCounts brackets.new.counts.items (plain_tokens rest.now)) }
 {
@@ -205,7 +205,7 @@ pub fn use_of<'a>(
     if is_hidden(hidden, token.text.as_slice()) {
         return Ok(Use::Kept);
     }
-    match find_macro(macros, token.text.as_slice()) {
+    match macros.find(token.text.as_slice()) {
         None => Ok(Use::Kept),
         Some(m) => use_of_macro(alloc, m, brackets, rest),
     }

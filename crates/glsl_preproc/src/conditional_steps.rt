@@ -51,7 +51,7 @@ impl Reader {
         ensures step { Steps (opened_if (state_of self.old) line (condition 1024 (state_of self.old).macros (plain_tokens list.now))) (state_of self.new) result }
         ensures within { length self.new.tokens.items ≤ 131072 }
     {
-        match condition(alloc, self.macros.as_slice(), LEVELS, &mut self.work, list) {
+        match condition(alloc, &self.macros, LEVELS, &mut self.work, list) {
             Judged::Yes => self.open(true, line),
             Judged::No => self.open(false, line),
             Judged::Fails => Err(Pre::Directive(line)),
@@ -65,7 +65,7 @@ impl Reader {
         ensures step { Steps (opened_ifdef (state_of self.old) line wanted (asked_defined (state_of self.old).macros (plain_tokens list.now))) (state_of self.new) result }
         ensures within { length self.new.tokens.items ≤ 131072 }
     {
-        match asked_defined(self.macros.as_slice(), list) {
+        match asked_defined(&self.macros, list) {
             None => Err(Pre::Directive(line)),
             Some(found) => self.open(found == wanted, line),
         }
@@ -101,7 +101,7 @@ impl Reader {
         ensures step { Steps (elif_judged (state_of self.old) line c (state_of self.old).conditionals (condition 1024 (state_of self.old).macros (plain_tokens list.now))) (state_of self.new) result }
         ensures within { length self.new.tokens.items ≤ 131072 }
     {
-        match condition(alloc, self.macros.as_slice(), LEVELS, &mut self.work, list) {
+        match condition(alloc, &self.macros, LEVELS, &mut self.work, list) {
             Judged::Yes => self.put_back(c, Part::Taken, false),
             Judged::No => self.put_back(c, Part::Waiting, false),
             Judged::Fails => Err(Pre::Directive(line)),

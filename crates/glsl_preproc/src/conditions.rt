@@ -2,12 +2,10 @@ ghost use Rattle.std.specs.Prelude.{◌≡◌, ◌≤◌, ◌<◌, ◌+◌, ◌^
 ghost use Rattle.glsl_tree.specs.Token.{plain, plain_tokens};
 ghost use Rattle.glsl_preproc.specs.Values.{operator_of};
 ghost use Rattle.glsl_preproc.specs.Conditions.{asked_at, answer_token, answered_from, primary_of, in_brackets, behind_sign, at_level, expression_at, operand_within, condition, judged};
-ghost use Rattle.glsl_preproc.specs.Views.{plain_macros};
 ghost use Rattle.glsl_preproc.specs.ConditionViews.{answered_of, asked_of, IsAskedWithin, signed, sign_of, parsed_of, IsParsedWithin, judged_of, IsJudged};
 
 use crate::errors::Pre;
-use crate::macro_table::is_defined;
-use crate::macros::Macro;
+use crate::macro_table::MacroTable;
 use crate::numbers::int_value;
 use crate::operators::Operator;
 use crate::replacement::{WORK, expand_list};
@@ -65,10 +63,10 @@ fn push_answer(alloc: Global, out: &mut Vec<Token>, answer: bool) -> Result<(), 
 /// The list with 1 or 0 for each `defined`, where each has a name.
 fn answered(
     alloc: Global,
-    macros: &[Macro],
+    macros: &MacroTable,
     list: &[Token],
 ) -> Result<Option<Vec<Token>>, AllocError>
-    ensures { IfOk result (λ found. answered_of found ≡ answered_from (plain_macros macros.now) [] 0 (plain_tokens list.now)) }
+    ensures { IfOk result (λ found. answered_of found ≡ answered_from macros.now [] 0 (plain_tokens list.now)) }
 {
     let mut out = Vec::new(alloc);
     let mut rest = list;
@@ -81,7 +79,7 @@ fn answered(
                 rest = tail;
             }
             Asked::Of(name, count) => {
-                push_answer(alloc, &mut out, is_defined(macros, name))?;
+                push_answer(alloc, &mut out, macros.is_defined(name))?;
                 rest = tail.split_at(count).1;
             }
             Asked::Broken => return Ok(None),
@@ -284,12 +282,12 @@ fn verdict_of(list: &[Token], parsed: Parsed) -> Judged
 #[tactic(auto, unfolding(crate::specs::Conditions::condition))]
 pub fn condition(
     alloc: Global,
-    macros: &[Macro],
+    macros: &MacroTable,
     levels: u32,
     work: &mut u32,
     list: &[Token],
 ) -> Judged
-    ensures { IsJudged (condition levels (plain_macros macros.now) (plain_tokens list.now)) result }
+    ensures { IsJudged (condition levels macros.now (plain_tokens list.now)) result }
 {
     let Ok(found) = answered(alloc, macros, list) else {
         return Judged::Unknown;

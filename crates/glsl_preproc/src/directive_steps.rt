@@ -38,7 +38,7 @@ impl Reader {
         let mut tokens = Vec::new(alloc);
         match expand_list(
             alloc,
-            self.macros.as_slice(),
+            &self.macros,
             LEVELS,
             &mut hidden,
             &mut self.work,

@@ -5,11 +5,11 @@ ghost use Rattle.std.specs.Str.{bytes_eq};
 ghost use Rattle.glsl_tree.specs.Token.{plain, plain_tokens};
 ghost use Rattle.glsl_preproc.specs.Macros.{is_name_token, find_macro};
 ghost use Rattle.glsl_preproc.specs.Directives.{kind_of_name, kind_of, parameters_from, parameters_at, macro_of, definition_of, after_define, after_undef, asked_defined, is_version, is_offered, is_extension, are_line_numbers};
-ghost use Rattle.glsl_preproc.specs.Views.{plain_macro, plain_macros, texts};
+ghost use Rattle.glsl_preproc.specs.Views.{plain_macro, texts};
 ghost use Rattle.glsl_preproc.specs.DirectiveViews.{names_of, standing, Changes};
 
 use crate::kinds::Kind;
-use crate::macro_table::{find_macro, is_defined, is_reserved, same_macro, same_text};
+use crate::macro_table::{MacroTable, is_reserved, same_macro, same_text};
 use crate::macros::Macro;
 use crate::tokens::{closes, copy_of, is_comma, is_int, is_name, is_params, is_text, push_name};
 use glsl_tree::Token;
@@ -192,10 +192,10 @@ pub enum Standing {
 }
 
 /// What is known of the macro.
-fn standing_of(macros: &[Macro], m: &Macro) -> Standing
-    ensures { result ≡ standing (plain_macro m.now) (find_macro (plain_macros macros.now) m.now.name.items) }
+fn standing_of(macros: &MacroTable, m: &Macro) -> Standing
+    ensures { result ≡ standing (plain_macro m.now) (find_macro macros.now m.now.name.items) }
 {
-    match find_macro(macros, m.name.as_slice()) {
+    match macros.find(m.name.as_slice()) {
         None => Standing::New,
         Some(old) => {
             if same_macro(old, m) {
@@ -209,15 +209,15 @@ fn standing_of(macros: &[Macro], m: &Macro) -> Standing
 
 /// Does what a `#define` says, and answers whether it may.
 #[tactic(auto, unfolding(crate::specs::Directives::after_define))]
-pub fn define(alloc: Global, macros: &mut Vec<Macro>, list: &[Token]) -> Result<bool, AllocError>
-    ensures { IfOk result (λ done. Changes (after_define (plain_macros macros.old.items) (plain_tokens list.now)) (plain_macros macros.new.items) done) }
+pub fn define(alloc: Global, macros: &mut MacroTable, list: &[Token]) -> Result<bool, AllocError>
+    ensures { IfOk result (λ done. Changes (after_define macros.old (plain_tokens list.now)) macros.new done) }
 {
     let Some(m) = definition_of(alloc, list)? else {
         return Ok(false);
     };
-    match standing_of(macros.as_slice(), &m) {
+    match standing_of(macros, &m) {
         Standing::New => {
-            macros.push(m)?;
+            macros.add(alloc, m)?;
             Ok(true)
         }
         Standing::Same => Ok(true),
@@ -225,21 +225,14 @@ pub fn define(alloc: Global, macros: &mut Vec<Macro>, list: &[Token]) -> Result<
     }
 }
 
-/// Takes away the macro of a name.
-fn remove_macro(macros: &mut Vec<Macro>, name: &[u8])
-    ensures { macros.new.items ≡ filter (λ m. not (bytes_eq m.name.items name.now)) macros.old.items }
-{
-    macros.retain(|m| !same_text(m.name.as_slice(), name));
-}
-
 /// Does what an `#undef` says, and answers whether it may.
 #[tactic(auto, unfolding(crate::specs::Directives::after_undef))]
-pub fn undefine(macros: &mut Vec<Macro>, list: &[Token]) -> bool
-    ensures { Changes (after_undef (plain_macros macros.old.items) (plain_tokens list.now)) (plain_macros macros.new.items) result }
+pub fn undefine(macros: &mut MacroTable, list: &[Token]) -> bool
+    ensures { Changes (after_undef macros.old (plain_tokens list.now)) macros.new result }
 {
     match list {
         [name] if is_name(name) && !is_reserved(name.text.as_slice()) => {
-            remove_macro(macros, name.text.as_slice());
+            macros.remove(name.text.as_slice());
             true
         }
         _ => false,
@@ -248,11 +241,11 @@ pub fn undefine(macros: &mut Vec<Macro>, list: &[Token]) -> bool
 
 /// Whether the one name behind an `#ifdef` is defined.
 #[tactic(auto, unfolding(crate::specs::Directives::asked_defined))]
-pub fn asked_defined(macros: &[Macro], list: &[Token]) -> Option<bool>
-    ensures { result ≡ asked_defined (plain_macros macros.now) (plain_tokens list.now) }
+pub fn asked_defined(macros: &MacroTable, list: &[Token]) -> Option<bool>
+    ensures { result ≡ asked_defined macros.now (plain_tokens list.now) }
 {
     match list {
-        [name] if is_name(name) => Some(is_defined(macros, name.text.as_slice())),
+        [name] if is_name(name) => Some(macros.is_defined(name.text.as_slice())),
         _ => None,
     }
 }

@@ -1,33 +1,94 @@
-ghost use Rattle.std.specs.Prelude.{◌≡◌, [], ◌∷◌, IfOk, OnOk, ◌++◌};
+ghost use Rattle.std.specs.Prelude.{◌≡◌, [], ◌∷◌, IfOk, OnOk, None, not, ◌++◌};
+ghost use Rattle.std.specs.List.{filter};
 ghost use Rattle.std.specs.Option.{option_map};
 ghost use Rattle.std.specs.Str.{bytes_eq};
 ghost use Rattle.glsl_tree.specs.Token.{plain, plain_tokens};
 ghost use Rattle.glsl_preproc.specs.Macros.{find_macro, is_defined, has_double_underscore, begins_with_gl, is_reserved, same_token, same_body, same_names, same_parameters, same_macro, first_macros, constant_macro, number_token};
-ghost use Rattle.glsl_preproc.specs.Views.{plain_macro, plain_macros, texts};
+ghost use Rattle.glsl_preproc.specs.Views.{plain_macro, texts};
 
 use crate::macros::Macro;
 use crate::tokens::{class_number, number_token};
 use glsl_tree::Token;
 use std::alloc::{AllocError, Global};
+use std::collections::BTreeMap;
+use std::marker::Model;
 
-/// The macro of a name.
-#[tactic(auto, unfolding(crate::specs::Macros::find_macro))]
-pub fn find_macro<'a>(macros: &'a [Macro], name: &[u8]) -> Option<&'a Macro>
-    ensures { option_map (λ m. plain_macro m.now) result ≡ find_macro (plain_macros macros.now) name.now }
-{
-    for m in macros {
-        if m.name.as_slice() == name {
-            return Some(m);
-        }
-    }
-    None
+/// The macros that are defined, in the order in which they were, and found by their names. A look-up, a new macro and one
+/// that is taken away take steps by the logarithm of the count of macros, and not by the count.
+#[derive(Drop)]
+pub struct MacroTable {
+    /// The macros. Where one was taken away, its place stays empty, so that the others keep theirs.
+    slots: Vec<Option<Macro>>,
+    /// The place of each macro that is defined, by name.
+    places: BTreeMap<Vec<u8>, usize>,
 }
 
-/// Whether a macro has the name.
-pub fn is_defined(macros: &[Macro], name: &[u8]) -> bool
-    ensures { result ≡ is_defined (plain_macros macros.now) name.now }
-{
-    find_macro(macros, name).is_some()
+impl Model for MacroTable {
+    ghost use Rattle.std.specs.Prelude.{List};
+    ghost use Rattle.glsl_preproc.specs.Macros.{PlainMacro};
+    ghost use Rattle.glsl_preproc.specs.MacroSlots.{live, place_of, IsIndexed};
+
+    ghost Value = { List PlainMacro };
+
+    ghost view = { λ t. live t.slots.items };
+
+    ghost invariant = { λ t. IsIndexed t.slots.items (place_of t.places) };
+}
+
+#[tactic(auto)]
+impl MacroTable {
+    /// No macro at all.
+    pub fn new(alloc: Global) -> Self
+        ensures { result ≡ [] }
+    {
+        MacroTable {
+            slots: Vec::new(alloc),
+            places: BTreeMap::new(alloc),
+        }
+    }
+
+    /// The macro of a name.
+    pub fn find(&self, name: &[u8]) -> Option<&Macro>
+        ensures { option_map (λ m. plain_macro m.now) result ≡ find_macro self.now name.now }
+    {
+        match self.places.get(name) {
+            None => None,
+            Some(place) => self.slots[*place].as_ref(),
+        }
+    }
+
+    /// Whether a macro has the name.
+    pub fn is_defined(&self, name: &[u8]) -> bool
+        ensures { result ≡ is_defined self.now name.now }
+    {
+        self.find(name).is_some()
+    }
+
+    /// Adds a macro of a name that none has.
+    pub fn add(&mut self, alloc: Global, m: Macro) -> Result<(), AllocError>
+        requires { find_macro self.old m.name.items ≡ None }
+        ensures { OnOk result (self.new ≡ self.old ++ plain_macro m ∷ []) }
+    {
+        let name = Vec::from_slice(alloc, m.name.as_slice())?;
+        let place = self.slots.len();
+        self.slots.push(Some(m))?;
+        match self.places.insert(name, place) {
+            Ok(_) => Ok(()),
+            Err(_) => {
+                let _ = self.slots.pop();
+                Err(AllocError)
+            }
+        }
+    }
+
+    /// Takes away the macro of a name, if there is one.
+    pub fn remove(&mut self, name: &[u8])
+        ensures { self.new ≡ filter (λ m. not (bytes_eq m.name name.now)) self.old }
+    {
+        if let Some(place) = self.places.remove(name) {
+            self.slots[place] = None;
+        }
+    }
 }
 
 /// Whether `__` stands in the name.
@@ -139,19 +200,23 @@ fn constant_macro(alloc: Global, name: &[u8], number: &[u8]) -> Result<Macro, Al
 
 /// The macros before the first directive.
 #[tactic(auto, unfolding(crate::specs::Macros::first_macros))]
-pub fn first_macros(alloc: Global) -> Result<Vec<Macro>, AllocError>
-    ensures { IfOk result (λ macros. plain_macros macros.items ≡ first_macros) }
+pub fn first_macros(alloc: Global) -> Result<MacroTable, AllocError>
+    ensures { IfOk result (λ macros. macros ≡ first_macros) }
 {
-    let mut macros = Vec::new(alloc);
+    let mut macros = MacroTable::new(alloc);
     let name = Vec::from_slice(alloc, b"__LINE__")?;
-    macros.push(Macro {
+    let line = Macro {
         name,
         parameters: None,
         body: Vec::new(alloc),
-    })?;
-    macros.push(constant_macro(alloc, b"__FILE__", b"0")?)?;
-    macros.push(constant_macro(alloc, b"__VERSION__", b"100")?)?;
-    macros.push(constant_macro(alloc, b"GL_ES", b"1")?)?;
-    macros.push(constant_macro(alloc, b"GL_FRAGMENT_PRECISION_HIGH", b"1")?)?;
+    };
+    macros.add(alloc, line)?;
+    macros.add(alloc, constant_macro(alloc, b"__FILE__", b"0")?)?;
+    macros.add(alloc, constant_macro(alloc, b"__VERSION__", b"100")?)?;
+    macros.add(alloc, constant_macro(alloc, b"GL_ES", b"1")?)?;
+    macros.add(
+        alloc,
+        constant_macro(alloc, b"GL_FRAGMENT_PRECISION_HIGH", b"1")?,
+    )?;
     Ok(macros)
 }

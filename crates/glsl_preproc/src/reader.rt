@@ -1,8 +1,7 @@
 use crate::conditionals::{Conditional, Part};
 use crate::errors::Pre;
 use crate::hashes::{append_before_hash, stray_hash};
-use crate::macro_table::first_macros;
-use crate::macros::Macro;
+use crate::macro_table::{MacroTable, first_macros};
 use crate::replacement::{WORK, expand_list};
 use crate::tokens::{append_copies, is_hash};
 use glsl_tree::Token;
@@ -18,7 +17,7 @@ pub const LONGEST: usize = 131_072;
 #[derive(Drop)]
 pub struct Reader {
     /// The macros that are defined.
-    pub macros: Vec<Macro>,
+    pub macros: MacroTable,
     /// The conditionals that are open, the outermost first.
     pub conditionals: Vec<Conditional>,
     /// How many more are open within lines that are not read.
@@ -76,7 +75,7 @@ impl Reader {
         let mut hidden = Vec::new(alloc);
         match expand_list(
             alloc,
-            self.macros.as_slice(),
+            &self.macros,
             LEVELS,
             &mut hidden,
             &mut self.work,

@@ -2,12 +2,12 @@ ghost use Rattle.std.specs.Prelude.{ℕ, ◌≡◌, ◌≤◌, ◌<◌, ◌+◌,
 ghost use Rattle.std.specs.Option.{option_map};
 ghost use Rattle.glsl_tree.specs.Token.{plain, plain_tokens};
 ghost use Rattle.glsl_preproc.specs.Replacement.{argument_of, argument_or, substituted, expanded, expanded_arguments, at_line, call_outcome};
-ghost use Rattle.glsl_preproc.specs.Views.{plain_macro, plain_macros, texts, lists, parameters_of, Expands, ExpandsArguments, argument_error};
+ghost use Rattle.glsl_preproc.specs.Views.{plain_macro, texts, lists, parameters_of, Expands, ExpandsArguments, argument_error};
 
 use crate::brackets::Brackets;
 use crate::calls::{Arguments, Use, parameters_of, use_of};
 use crate::errors::Pre;
-use crate::macro_table::same_text;
+use crate::macro_table::{MacroTable, same_text};
 use crate::macros::Macro;
 use crate::tokens::{append_at_line, copy_at, copy_of, line_number, push_list, push_name};
 use glsl_tree::Token;
@@ -116,7 +116,7 @@ fn push_within(out: &mut Vec<Token>, limit: usize, token: Token) -> Result<(), P
 #[cycle(replacement)]
 pub fn expand_list(
     alloc: Global,
-    macros: &[Macro],
+    macros: &MacroTable,
     levels: u32,
     hidden: &mut Vec<Vec<u8>>,
     work: &mut u32,
@@ -125,7 +125,7 @@ pub fn expand_list(
     limit: usize,
 ) -> Result<(), Pre>
     requires { length out.old.items ≤ limit }
-    ensures outcome { Expands limit (expanded levels (plain_macros macros.now) (texts hidden.old.items) (plain_tokens out.old.items) (plain_tokens list.now)) (plain_tokens out.new.items) result }
+    ensures outcome { Expands limit (expanded levels macros.now (texts hidden.old.items) (plain_tokens out.old.items) (plain_tokens list.now)) (plain_tokens out.new.items) result }
     ensures hidden { OnOk result (texts hidden.new.items ≡ texts hidden.old.items) }
     ensures within { length out.new.items ≤ limit }
 {
@@ -187,7 +187,7 @@ pub fn expand_list(
 #[cycle(replacement)]
 fn rescan(
     alloc: Global,
-    macros: &[Macro],
+    macros: &MacroTable,
     levels: u32,
     hidden: &mut Vec<Vec<u8>>,
     work: &mut u32,
@@ -197,7 +197,7 @@ fn rescan(
     limit: usize,
 ) -> Result<(), Pre>
     requires { length out.old.items ≤ limit }
-    ensures outcome { Expands limit (expanded levels (plain_macros macros.now) (texts hidden.old.items ++ name.now ∷ []) (plain_tokens out.old.items) (plain_tokens list.now)) (plain_tokens out.new.items) result }
+    ensures outcome { Expands limit (expanded levels macros.now (texts hidden.old.items ++ name.now ∷ []) (plain_tokens out.old.items) (plain_tokens list.now)) (plain_tokens out.new.items) result }
     ensures hidden { OnOk result (texts hidden.new.items ≡ texts hidden.old.items) }
     ensures within { length out.new.items ≤ limit }
 {
@@ -217,7 +217,7 @@ fn rescan(
 #[cycle(replacement)]
 fn expand_object(
     alloc: Global,
-    macros: &[Macro],
+    macros: &MacroTable,
     levels: u32,
     hidden: &mut Vec<Vec<u8>>,
     work: &mut u32,
@@ -227,7 +227,7 @@ fn expand_object(
     limit: usize,
 ) -> Result<(), Pre>
     requires { length out.old.items ≤ limit }
-    ensures outcome { Expands limit (expanded levels (plain_macros macros.now) (texts hidden.old.items ++ name.now.text.items ∷ []) (plain_tokens out.old.items) (at_line name.now.line (plain_tokens m.now.body.items))) (plain_tokens out.new.items) result }
+    ensures outcome { Expands limit (expanded levels macros.now (texts hidden.old.items ++ name.now.text.items ∷ []) (plain_tokens out.old.items) (at_line name.now.line (plain_tokens m.now.body.items))) (plain_tokens out.new.items) result }
     ensures hidden { OnOk result (texts hidden.new.items ≡ texts hidden.old.items) }
     ensures within { length out.new.items ≤ limit }
 {
@@ -262,13 +262,13 @@ fn argument_error(e: Pre) -> Pre
 #[cycle(replacement)]
 fn expand_arguments(
     alloc: Global,
-    macros: &[Macro],
+    macros: &MacroTable,
     levels: u32,
     hidden: &mut Vec<Vec<u8>>,
     work: &mut u32,
     arguments: &[Vec<Token>],
 ) -> Result<Vec<Vec<Token>>, Pre>
-    ensures outcome { ExpandsArguments (expanded_arguments (expanded levels (plain_macros macros.now) (texts hidden.old.items) []) [] (lists arguments.now)) result }
+    ensures outcome { ExpandsArguments (expanded_arguments (expanded levels macros.now (texts hidden.old.items) []) [] (lists arguments.now)) result }
     ensures hidden { OnOk result (texts hidden.new.items ≡ texts hidden.old.items) }
 {
     let mut done = Vec::new(alloc);
@@ -300,7 +300,7 @@ fn expand_arguments(
 #[cycle(replacement)]
 fn expand_call(
     alloc: Global,
-    macros: &[Macro],
+    macros: &MacroTable,
     levels: u32,
     hidden: &mut Vec<Vec<u8>>,
     work: &mut u32,
@@ -311,7 +311,7 @@ fn expand_call(
     limit: usize,
 ) -> Result<(), Pre>
     requires { length out.old.items ≤ limit }
-    ensures outcome { Expands limit (call_outcome (expanded levels (plain_macros macros.now)) (texts hidden.old.items) (plain_tokens out.old.items) (plain name.now) (plain_macro m.now) (parameters_of m.now.parameters) (lists arguments.now.lists.items)) (plain_tokens out.new.items) result }
+    ensures outcome { Expands limit (call_outcome (expanded levels macros.now) (texts hidden.old.items) (plain_tokens out.old.items) (plain name.now) (plain_macro m.now) (parameters_of m.now.parameters) (lists arguments.now.lists.items)) (plain_tokens out.new.items) result }
     ensures hidden { OnOk result (texts hidden.new.items ≡ texts hidden.old.items) }
     ensures within { length out.new.items ≤ limit }
 {

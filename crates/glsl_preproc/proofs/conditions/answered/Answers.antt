@@ -2,7 +2,6 @@ use Rattle.std.proofs.Common.{◌++◌, [], ◌∷◌, drop, sym, ap, ◌∙◌}
 use Rattle.glsl_tree.specs.Token.{plain, plain_tokens}
 use Rattle.glsl_preproc.specs.Macros.{is_defined}
 use Rattle.glsl_preproc.specs.Conditions.{Other, Of, Broken, asked_at, answer_token, answered_from}
-use Rattle.glsl_preproc.specs.Views.{plain_macros}
 use Rattle.glsl_preproc.proofs.Items.{some_items, none_left}
 use Rattle.glsl_preproc.proofs.Answering.{answered_at, answered_skip, answered_end}
 use Rattle.glsl_preproc.proofs.conditions.answered.Goals as goal
@@ -10,7 +9,7 @@ use Rattle.glsl_preproc.proofs.conditions.answered.Goals as goal
 pub loop-rest-preserved-in-Other : goal.loop-rest-preserved-in-Other
 loop-rest-preserved-in-Other c =
     let rest = c.loop-rest.rest.now in
-    let macros = plain_macros c.args.macros.now in
+    let macros = c.args.macros.now in
     let done = plain_tokens c.loop-rest.out.items in
     let x = c.index-rest-0.result in
     let some = some_items rest _ c.is_empty.ensures c.loop-rest-test.true in
@@ -21,7 +20,7 @@ loop-rest-preserved-in-Other c =
 pub loop-rest-preserved : goal.loop-rest-preserved
 loop-rest-preserved c =
     let rest = c.loop-rest.rest.now in
-    let macros = plain_macros c.args.macros.now in
+    let macros = c.args.macros.now in
     let done = plain_tokens c.loop-rest.out.items in
     let x = c.index-rest-0.result in
     let name = c.in-Of.name.now in
@@ -37,11 +36,11 @@ loop-rest-preserved c =
 pub returns-in-Broken : goal.returns-in-Broken
 returns-in-Broken c =
     let rest = c.loop-rest.rest.now in
-    let macros = plain_macros c.args.macros.now in
+    let macros = c.args.macros.now in
     let x = c.index-rest-0.result in
     let some = some_items rest _ c.is_empty.ensures c.loop-rest-test.true in
     let asked = c.in-Broken.ensures.asked ∙ ap (λ l. asked_at (plain x) (plain_tokens l)) c.split_at.ensures.back in
     sym (answered_at macros (plain_tokens c.loop-rest.out.items) rest x Broken some c.index-rest-0.is asked) ∙ c.loop-rest.invariant
 
 pub returns : goal.returns
-returns c = sym (answered_end (plain_macros c.args.macros.now) (plain_tokens c.loop-rest.out.items) c.loop-rest.rest.now (none_left _ _ c.is_empty.ensures c.loop-rest-test.false)) ∙ c.loop-rest.invariant
+returns c = sym (answered_end c.args.macros.now (plain_tokens c.loop-rest.out.items) c.loop-rest.rest.now (none_left _ _ c.is_empty.ensures c.loop-rest-test.false)) ∙ c.loop-rest.invariant

@@ -5,7 +5,7 @@ use Rattle.glsl_preproc.specs.Replacement.{Outcome, End, Kept, LineNumber, Objec
 use Rattle.glsl_tree.specs.declared.token.Token.{Token}
 use Rattle.glsl_preproc.specs.LoneClosers.{AreCounts}
 use Rattle.glsl_preproc.proofs.LoneClosers.{no_counts, counts_behind}
-use Rattle.glsl_preproc.specs.Views.{plain_macro, plain_macros, texts, lists, parameters_of, use_view, Expands, ExpandsArguments, argument_error}
+use Rattle.glsl_preproc.specs.Views.{plain_macro, texts, lists, parameters_of, use_view, Expands, ExpandsArguments, argument_error}
 use Rattle.glsl_preproc.specs.declared.errors.Pre.{Pre}
 use Rattle.glsl_preproc.proofs.Items.{some_items, none_left, at_first, at_none}
 use Rattle.glsl_preproc.proofs.Expanding.{expanded_more, step_at, list_end, behind_whole, err_push, err_behind, err_argument, arguments_first, arguments_end}
@@ -13,7 +13,7 @@ use Rattle.glsl_preproc.proofs.replacement.+replacement.Goals as goal
 
 pub expand_list-loop-rest-init : goal.expand_list-loop-rest-init
 expand_list-loop-rest-init t c = record {
-  rest = sym (expanded_more (c.args.levels - 1) c.args.levels (plain_macros c.args.macros.now) (texts c.args.hidden.now.items) (plain_tokens c.args.out.now.items) (plain_tokens c.args.list.now) (omega arith));
+  rest = sym (expanded_more (c.args.levels - 1) c.args.levels c.args.macros.now (texts c.args.hidden.now.items) (plain_tokens c.args.out.now.items) (plain_tokens c.args.list.now) (omega arith));
   hidden = refl;
   within = c.requires;
   levels = omega arith;
@@ -29,7 +29,7 @@ pub expand_list-loop-rest-preserved-in-Ok-push_within : goal.expand_list-loop-re
 expand_list-loop-rest-preserved-in-Ok-push_within t c =
     let rest = c.loop-rest.rest.now in
     let n = c.args.levels - 1 in
-    let macros = plain_macros c.args.macros.now in
+    let macros = c.args.macros.now in
     let hidden = texts c.loop-rest.hidden.items in
     let done = plain_tokens c.loop-rest.out.items in
     let x = c.index-rest-0.result in
@@ -49,7 +49,7 @@ pub expand_list-returns-in-Err-clause-outcome : goal.expand_list-returns-in-Err-
 expand_list-returns-in-Err-clause-outcome t c =
     let rest = c.loop-rest.rest.now in
     let n = c.args.levels - 1 in
-    let macros = plain_macros c.args.macros.now in
+    let macros = c.args.macros.now in
     let hidden = texts c.loop-rest.hidden.items in
     let done = plain_tokens c.loop-rest.out.items in
     let x = c.index-rest-0.result in
@@ -64,7 +64,7 @@ pub expand_list-loop-rest-preserved-in-Ok-push_within-2 : goal.expand_list-loop-
 expand_list-loop-rest-preserved-in-Ok-push_within-2 t c =
     let rest = c.loop-rest.rest.now in
     let n = c.args.levels - 1 in
-    let macros = plain_macros c.args.macros.now in
+    let macros = c.args.macros.now in
     let hidden = texts c.loop-rest.hidden.items in
     let done = plain_tokens c.loop-rest.out.items in
     let x = c.index-rest-0.result in
@@ -84,7 +84,7 @@ pub expand_list-returns-in-Err-push_within-clause-outcome : goal.expand_list-ret
 expand_list-returns-in-Err-push_within-clause-outcome t c =
     let rest = c.loop-rest.rest.now in
     let n = c.args.levels - 1 in
-    let macros = plain_macros c.args.macros.now in
+    let macros = c.args.macros.now in
     let hidden = texts c.loop-rest.hidden.items in
     let done = plain_tokens c.loop-rest.out.items in
     let x = c.index-rest-0.result in
@@ -98,7 +98,7 @@ expand_list-returns-in-Err-push_within-clause-outcome t c =
 pub expand_list-returns-in-WrongCount-clause-outcome : goal.expand_list-returns-in-WrongCount-clause-outcome
 expand_list-returns-in-WrongCount-clause-outcome t c =
     let rest = c.loop-rest.rest.now in
-    let macros = plain_macros c.args.macros.now in
+    let macros = c.args.macros.now in
     let x = c.index-rest-0.result in
     let some = some_items rest _ c.is_empty.ensures c.loop-rest-test.true in
     let used = sym (ap use_view c.in-WrongCount.is) ∙ c.in-Ok-use_of.ensures.used ∙ (λ i. use_of macros (texts (c.as_slice.ensures.value i)) (plain x) (plain_tokens (c.split_at.ensures.back i))) in
@@ -108,7 +108,7 @@ pub expand_list-loop-rest-preserved-in-Ok-expand_object : goal.expand_list-loop-
 expand_list-loop-rest-preserved-in-Ok-expand_object t c =
     let rest = c.loop-rest.rest.now in
     let n = c.args.levels - 1 in
-    let macros = plain_macros c.args.macros.now in
+    let macros = c.args.macros.now in
     let hidden = texts c.loop-rest.hidden.items in
     let done = plain_tokens c.loop-rest.out.items in
     let x = c.index-rest-0.result in
@@ -130,7 +130,7 @@ pub expand_list-returns-in-Err-expand_object-clause-outcome : goal.expand_list-r
 expand_list-returns-in-Err-expand_object-clause-outcome t c =
     let rest = c.loop-rest.rest.now in
     let n = c.args.levels - 1 in
-    let macros = plain_macros c.args.macros.now in
+    let macros = c.args.macros.now in
     let hidden = texts c.loop-rest.hidden.items in
     let done = plain_tokens c.loop-rest.out.items in
     let x = c.index-rest-0.result in
@@ -144,7 +144,7 @@ pub expand_list-returns-in-Err-expand_call-clause-outcome : goal.expand_list-ret
 expand_list-returns-in-Err-expand_call-clause-outcome t c =
     let rest = c.loop-rest.rest.now in
     let n = c.args.levels - 1 in
-    let macros = plain_macros c.args.macros.now in
+    let macros = c.args.macros.now in
     let hidden = texts c.loop-rest.hidden.items in
     let done = plain_tokens c.loop-rest.out.items in
     let x = c.index-rest-0.result in
@@ -161,7 +161,7 @@ pub expand_list-loop-rest-preserved : goal.expand_list-loop-rest-preserved
 expand_list-loop-rest-preserved t c =
     let rest = c.loop-rest.rest.now in
     let n = c.args.levels - 1 in
-    let macros = plain_macros c.args.macros.now in
+    let macros = c.args.macros.now in
     let hidden = texts c.loop-rest.hidden.items in
     let done = plain_tokens c.loop-rest.out.items in
     let x = c.index-rest-0.result in
@@ -186,13 +186,13 @@ expand_list-loop-rest-preserved t c =
 
 pub expand_list-returns-clause-outcome : goal.expand_list-returns-clause-outcome
 expand_list-returns-clause-outcome t c =
-    let macros = plain_macros c.args.macros.now in
+    let macros = c.args.macros.now in
     sym c.loop-rest.invariant.rest ∙ list_end (expanded (c.args.levels - 1) macros) macros (texts c.loop-rest.hidden.items) (plain_tokens c.loop-rest.out.items) c.loop-rest.rest.now (none_left _ _ c.is_empty.ensures c.loop-rest-test.false)
 
 pub expand_arguments-loop-rest-preserved : goal.expand_arguments-loop-rest-preserved
 expand_arguments-loop-rest-preserved t c =
     let rest = c.loop-rest.rest.now in
-    let macros = plain_macros c.args.macros.now in
+    let macros = c.args.macros.now in
     let below = expanded c.args.levels macros (texts c.args.hidden.now.items) [] in
     let some = some_items rest _ c.is_empty.ensures c.loop-rest-test.true in
     let a = c.index-rest-0.result in
@@ -208,7 +208,7 @@ expand_arguments-loop-rest-preserved t c =
 pub expand_arguments-returns-in-Err-clause-outcome : goal.expand_arguments-returns-in-Err-clause-outcome
 expand_arguments-returns-in-Err-clause-outcome t c =
     let rest = c.loop-rest.rest.now in
-    let macros = plain_macros c.args.macros.now in
+    let macros = c.args.macros.now in
     let below = expanded c.args.levels macros (texts c.args.hidden.now.items) [] in
     let some = some_items rest _ c.is_empty.ensures c.loop-rest-test.true in
     let a = c.index-rest-0.result in
@@ -223,6 +223,6 @@ expand_arguments-returns-in-Err-clause-outcome t c =
 
 pub expand_arguments-returns-clause-outcome : goal.expand_arguments-returns-clause-outcome
 expand_arguments-returns-clause-outcome t c =
-    let macros = plain_macros c.args.macros.now in
+    let macros = c.args.macros.now in
     let below = expanded c.args.levels macros (texts c.args.hidden.now.items) [] in
     sym c.loop-rest.invariant.rest ∙ at_none (λ l. expanded_arguments below (lists c.loop-rest.done.items) (lists l)) c.loop-rest.rest.now (none_left _ _ c.is_empty.ensures c.loop-rest-test.false) ∙ arguments_end below (lists c.loop-rest.done.items)

@@ -2,7 +2,7 @@ use Rattle.std.proofs.Common.{◌+◌, ◌*◌, ◌≡◌, ◌≤◌, [], length
 use Rattle.glsl_tree.specs.Token.{plain_tokens}
 use Rattle.glsl_preproc.specs.Replacement.{expanded, list_from, expanded_arguments}
 use Rattle.glsl_preproc.specs.LoneClosers.{AreCounts}
-use Rattle.glsl_preproc.specs.Views.{plain_macros, texts, lists}
+use Rattle.glsl_preproc.specs.Views.{texts, lists}
 use Rattle.glsl_preproc.proofs.replacement.+replacement.Given as goal
 
 abbrev pub decreases-expand_list : goal.decreases-expand_list
@@ -23,8 +23,8 @@ decreases-expand_call l = 4 * l.levels + 3
 -- the tokens so far, and what the rest of the list is expanded to behind them
 abbrev pub invariant-expand_list-loop-rest : goal.invariant-expand_list-loop-rest
 invariant-expand_list-loop-rest l = record {
-  rest : list_from (expanded l.below (plain_macros l.macros)) (plain_macros l.macros) (texts l.hidden.items) (plain_tokens l.out.items) 0 (plain_tokens l.rest)
-      ≡ expanded l.levels (plain_macros l.macros) (texts l.fn.hidden.items) (plain_tokens l.fn.out.items) (plain_tokens l.list);
+  rest : list_from (expanded l.below l.macros) l.macros (texts l.hidden.items) (plain_tokens l.out.items) 0 (plain_tokens l.rest)
+      ≡ expanded l.levels l.macros (texts l.fn.hidden.items) (plain_tokens l.fn.out.items) (plain_tokens l.list);
   hidden : texts l.hidden.items ≡ texts l.fn.hidden.items;
   within : length l.out.items ≤ l.limit;
   levels : l.below + 1 ≡ l.levels;
@@ -37,8 +37,8 @@ decreases-expand_list-loop-rest l = length l.rest
 -- the arguments that are expanded, and those that are left
 abbrev pub invariant-expand_arguments-loop-rest : goal.invariant-expand_arguments-loop-rest
 invariant-expand_arguments-loop-rest l = record {
-  rest : expanded_arguments (expanded l.levels (plain_macros l.macros) (texts l.fn.hidden.items) []) (lists l.done.items) (lists l.rest)
-      ≡ expanded_arguments (expanded l.levels (plain_macros l.macros) (texts l.fn.hidden.items) []) [] (lists l.arguments);
+  rest : expanded_arguments (expanded l.levels l.macros (texts l.fn.hidden.items) []) (lists l.done.items) (lists l.rest)
+      ≡ expanded_arguments (expanded l.levels l.macros (texts l.fn.hidden.items) []) [] (lists l.arguments);
   hidden : texts l.hidden.items ≡ texts l.fn.hidden.items;
 }
 
