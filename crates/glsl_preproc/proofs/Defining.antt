@@ -1,16 +1,14 @@
 -- What `#define` and `#undef` do.
-use Rattle.std.proofs.Common.{◌≡◌, ◌<◌, ◌≤◌, ◌+◌, ◌++◌, ℕ, Bool, true, false, not, cond, ◌&&◌, List, [], ◌∷◌, length, drop, get_or, Option, Some, None, refl, sym, ap, ◌∙◌, arith}
+use Rattle.std.proofs.Common.{◌≡◌, ◌<◌, ◌≤◌, ◌+◌, ◌++◌, ℕ, Bool, true, false, not, cond, ◌&&◌, List, [], ◌∷◌, length, drop, get_or, Option, Some, None, refl, sym, ap, arith}
 use Rattle.std.proofs.lemmas.Bool.{cond-true, cond-false}
-use Rattle.std.specs.List.{filter, list_any}
+use Rattle.std.specs.List.{list_any}
 use Rattle.std.specs.Str.{bytes_eq}
 use Rattle.glsl_tree.specs.Token.{PlainToken, plain, plain_tokens}
 use Rattle.glsl_tree.specs.declared.token.Token.{Token}
 use Rattle.glsl_preproc.specs.Macros.{PlainMacro, same_macro, is_name_token}
 use Rattle.glsl_preproc.specs.Replacement.{closes, is_comma}
 use Rattle.glsl_preproc.specs.Directives.{defined_again, parameters_from}
-use Rattle.glsl_preproc.specs.Views.{plain_macro, plain_macros}
 use Rattle.glsl_preproc.specs.DirectiveViews.{standing}
-use Rattle.glsl_preproc.specs.declared.macros.Macro.{Macro}
 use Rattle.glsl_preproc.specs.declared.directives.Standing.TheVariants.{New, Same, Other}
 
 other_new : (b : Bool) → New ≡ cond b Same Other → ⊥
@@ -36,15 +34,6 @@ defined_same macros m (Some old) e = cond-true (same_macro old m) _ _ (other_sam
 pub defined_other : (macros : List PlainMacro) (m : PlainMacro) (o : Option PlainMacro) → Other ≡ standing m o → defined_again macros m o ≡ None
 defined_other macros m None e = absurd cc
 defined_other macros m (Some old) e = cond-false (same_macro old m) _ _ (other_other (same_macro old m) e)
-
-pub filter_plain : (name : List ℕ) (macros : List Macro) → plain_macros (filter (λ m. not (bytes_eq m.name.items name)) macros) ≡ filter (λ m. not (bytes_eq m.name name)) (plain_macros macros)
-filter_plain name [] = refl
-filter_plain name (m ∷ macros) = kept (not (bytes_eq m.name.items name)) ∙ ap (λ l. cond (not (bytes_eq m.name.items name)) (plain_macro m ∷ l) l) (filter_plain name macros)
-  where
-    kept : (b : Bool) → plain_macros (cond b (m ∷ filter (λ k. not (bytes_eq k.name.items name)) macros) (filter (λ k. not (bytes_eq k.name.items name)) macros))
-        ≡ cond b (plain_macro m ∷ plain_macros (filter (λ k. not (bytes_eq k.name.items name)) macros)) (plain_macros (filter (λ k. not (bytes_eq k.name.items name)) macros))
-    kept true = refl
-    kept false = refl
 
 -- Parameters.
 two_and_rest : (xs : List Token) (x y : Token) → 2 ≤ length xs → x ≡ get_or xs 0 x → y ≡ get_or xs 1 y → xs ≡ x ∷ y ∷ drop 2 xs

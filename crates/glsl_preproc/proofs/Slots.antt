@@ -152,10 +152,6 @@ copied (Some m) = refl
 pub live_more : (slots : List (Option Macro)) (m : Macro) → live (slots ++ Some m ∷ []) ≡ live slots ++ plain_macro m ∷ []
 live_more slots m = filter_map-append (option_map plain_macro) slots (Some m ∷ [])
 
--- no slot and no place
-pub indexed_none : IsIndexed [] (λ _. None)
-indexed_none i name = refl
-
 -- the places of names after a change at the bytes of one
 apart : (bs q ks : List ℕ) → bytes_eq bs q ≡ false → is_eq (slice_cmp nat_cmp bs ks) ≡ true → is_eq (slice_cmp nat_cmp q ks) ≡ false
 apart bs q ks n y = by_other (cases_Bool (is_eq (slice_cmp nat_cmp q ks)))

@@ -24,9 +24,6 @@ texts names = map (λ v. v.items) names
 abbrev pub plain_macro : Macro → PlainMacro
 plain_macro m = record { name = m.name.items; parameters = option_map (λ v. texts v.items) m.parameters; body = plain_tokens m.body.items }
 
-abbrev pub plain_macros : List Macro → List PlainMacro
-plain_macros macros = map plain_macro macros
-
 -- each list of tokens
 abbrev pub lists : List (Vec Token Global) → List (List PlainToken)
 lists arguments = map (λ v. plain_tokens v.items) arguments
