@@ -7,7 +7,7 @@ use Rattle.std.proofs.lemmas.Grind.{flat_map-append}
 use Rattle.std.proofs.lemmas.List.Concat.{flat_map-cons}
 use Rattle.gl_numbers.specs.Bytes.{le32}
 use Rattle.gl_numbers.proofs.Bytes.{length-le32, le32-one, drop-le32}
-use Rattle.call_records.specs.declared.replies.TheConstants.{TAG_NOTHING, TAG_NUMBER, TAG_LIST, TAG_TEXT, TAG_ACTIVE}
+use Rattle.call_records.specs.declared.replies.TheConstants.{TAG_NUMBER}
 use Rattle.call_records.specs.declared.replies.Value as Values
 use Rattle.call_records.specs.declared.replies.Value.TheVariants.{Nothing, Number, Text, Active}
 use Rattle.call_records.specs.declared.replies.Value.TheVariants as Value

@@ -1,5 +1,5 @@
 -- The value is there, or nothing begins the bytes.
-use Rattle.std.proofs.Common.{◌≡◌, ◌++◌, ◌∙◌, refl, length, arith, append_assoc}
+use Rattle.std.proofs.Common.{◌++◌, ◌∙◌, refl, length}
 use Rattle.gl_numbers.specs.Bytes.{le32}
 use Rattle.wire_io.proofs.Fronts.{rest_of}
 use Rattle.call_records.proofs.ReplyFronts.{no_words, after_two}

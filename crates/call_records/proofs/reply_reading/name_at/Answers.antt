@@ -1,5 +1,5 @@
 -- The name is there, or nothing begins the bytes.
-use Rattle.std.proofs.Common.{◌≡◌, length, arith, length-drop, lit<}
+use Rattle.std.proofs.Common.{length, arith, lit<}
 use Rattle.wire_io.proofs.Fronts.{rest_of}
 use Rattle.call_records.proofs.ReplyFronts.{no_word, no_count, no_part, name_front}
 use Rattle.call_records.proofs.reply_reading.name_at.Goals as goal

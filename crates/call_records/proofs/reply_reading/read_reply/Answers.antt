@@ -1,5 +1,5 @@
 -- Nothing begins the bytes.
-use Rattle.std.proofs.Common.{refl, ◌∙◌, sym}
+use Rattle.std.proofs.Common.{refl, ◌∙◌}
 use Rattle.wire_io.proofs.Fronts.{rest_of}
 use Rattle.call_records.specs.Replies.{tag_of, content_of}
 use Rattle.call_records.proofs.ReplyFronts.{no_words, no_reply}
