@@ -1,62 +1,23 @@
--- The driver agrees with the page after a change of one buffer on both sides.
-use Rattle.std.proofs.Common.{◌≡◌, ℕ, zero, suc, ◌+◌, ◌-◌, Bool, true, false, Option, Some, None, IsSome, List, [], ◌∷◌, ◌++◌, length, refl, sym, ap, subst, ◌∙◌, arith, inl, inr, lit<}
-use Rattle.std.specs.Prelude.{slice_get, nat_eq, if◌then◌else◌, unwrap_or, ◌==◌}
+-- The driver agrees with the page after a change of one object on both sides.
+use Rattle.std.proofs.Common.{◌≡◌, ℕ, ◌+◌, Bool, true, false, Option, Some, None, IsSome, List, length, refl, sym, ap, subst, ◌∙◌, arith, inl, inr, lit<}
+use Rattle.std.specs.Prelude.{nat_eq, if◌then◌else◌, unwrap_or, ◌==◌}
 use Rattle.std.specs.Option.{option_map, option_and_then}
 use Rattle.std.proofs.lemmas.Bool.{ne_eqb}
 use Rattle.std.proofs.lemmas.Bool.Decides.{eqb_tells}
 use Rattle.gl_numbers.specs.BufferWords.{buffer_target_of}
 use Rattle.gl_numbers.specs.declared.buffer_words.BufferTarget.{BufferTarget}
 use Rattle.gl_numbers.specs.declared.buffer_words.BufferTarget.TheVariants.{Array, ElementArray}
-use Rattle.gl_model.specs.Buffers.{Buffer, Bindings, new_buffer, take_target, binding, bound_to, bind, non_zero}
-use Rattle.gl_model.specs.PageState.{PageState, Object, buffer_object, as_buffer, buffer_at, on_buffer, changed_at, with_buffer}
-use Rattle.gl_model.specs.DriverState.{DriverState, with_name}
+use Rattle.gl_model.specs.Buffers.{Buffer, Bindings, new_buffer, take_target, binding, bound_to, bind, unbind, unless_name, non_zero}
+use Rattle.gl_model.specs.PageState.{PageState, Object, buffer_content, new_object, buffer_at, page_buffer, on_buffer, mark, with_object, with_buffer}
+use Rattle.gl_model.specs.DriverState.{DriverState, with_name, bound_buffer}
 use Rattle.gl_model.specs.DriverStep.{is_name, with_bound, effect}
-use Rattle.command_stream.specs.declared.command.Command.TheVariants.{BindBuffer}
+use Rattle.command_stream.specs.declared.command.Command.TheVariants.{DropBuffer, BindBuffer}
 use Rattle.gl_model.specs.Errors.{ErrorSet}
 use Rattle.session_run.specs.Sent.{driver_name, bound_name}
 use Rattle.session_run.specs.Stands.{Agrees, IsThere}
-use Rattle.session_run.specs.BufferRecords.{create_effect, next_handle, bind_effect}
-
--- the element that was changed
-pub slice_get-changed_same : {A : Type 0} (change : A → A) (xs : List A) (i : ℕ) → slice_get (changed_at change xs i) i ≡ option_map change (slice_get xs i)
-slice_get-changed_same change [] i = refl
-slice_get-changed_same change (x ∷ xs) zero = refl
-slice_get-changed_same change (x ∷ xs) (suc i) = slice_get-changed_same change xs i
-
--- an element that wasn't changed
-pub slice_get-changed_other : {A : Type 0} (change : A → A) (xs : List A) (j i : ℕ) → (i ≡ j → ⊥) → slice_get (changed_at change xs j) i ≡ slice_get xs i
-slice_get-changed_other change [] j i other = refl
-slice_get-changed_other change (x ∷ xs) zero zero other = absurd (other refl)
-slice_get-changed_other change (x ∷ xs) zero (suc i) other = refl
-slice_get-changed_other change (x ∷ xs) (suc j) zero other = refl
-slice_get-changed_other change (x ∷ xs) (suc j) (suc i) other = slice_get-changed_other change xs j i (λ e. other (ap suc e))
-
--- the buffer that a changed object is
-pub as_buffer-changed : (change : Buffer → Buffer) (o : Option Object)
-    → option_and_then as_buffer (option_map (on_buffer change) o) ≡ option_map change (option_and_then as_buffer o)
-as_buffer-changed change None = refl
-as_buffer-changed change (Some (buffer_object b)) = refl
-
--- the buffer of a handle that was changed
-pub buffer_at-same : (change : Buffer → Buffer) (objects : List Object) (handle : ℕ)
-    → buffer_at (with_buffer change objects handle) handle ≡ option_map change (buffer_at objects handle)
-buffer_at-same change objects handle =
-    elim (eqb_tells handle 0) [
-      | inl null ↦ rw null.0 refl
-      | inr given ↦ rw given.0 (rw (slice_get-changed_same (on_buffer change) objects (handle - 1)) (as_buffer-changed change (slice_get objects (handle - 1))))
-    ]
-
--- the buffer of another handle
-pub buffer_at-other : (change : Buffer → Buffer) (objects : List Object) (handle k : ℕ) → (k ≡ handle → ⊥)
-    → buffer_at (with_buffer change objects handle) k ≡ buffer_at objects k
-buffer_at-other change objects handle k other =
-    elim (eqb_tells handle 0) [
-      | inl null ↦ rw null.0 refl
-      | inr given ↦ elim (eqb_tells k 0) [
-        | inl none ↦ rw none.0 refl
-        | inr some ↦ rw (given.0, some.0) (ap (option_and_then as_buffer) (slice_get-changed_other (on_buffer change) objects (handle - 1) (k - 1) (λ e. other (omega arith))))
-      ]
-    ]
+use Rattle.session_run.specs.ObjectRecords.{create_effect, next_handle}
+use Rattle.session_run.specs.BufferRecords.{bind_effect, with_page_buffer}
+use Rattle.session_run.proofs.Handles.{buffer_at-same, buffer_at-other, buffer_at-marked, buffer_at-pushed, buffer_at-before}
 
 -- a change leaves that there is a buffer
 pub some-map : (change : Buffer → Buffer) (b : Option Buffer) → IsSome b → IsSome (option_map change b)
@@ -69,7 +30,7 @@ pub there-with_buffer : (change : Buffer → Buffer) (objects : List Object) (ha
 there-with_buffer change objects handle k there =
     elim (eqb_tells k handle) [
       | inl same ↦ let there' = subst (λ (h : ℕ). IsSome (buffer_at objects h)) same.1 there in rw same.1 (rw (buffer_at-same change objects handle) (some-map change (buffer_at objects handle) there'))
-      | inr other ↦ rw (buffer_at-other change objects handle k other.1) there
+      | inr other ↦ rw (buffer_at-other (on_buffer change) objects handle k other.1) there
     ]
 
 -- what is bound is there after a change
@@ -108,12 +69,12 @@ made-with_bound change objects buffers None made k = made k
 made-with_bound change objects buffers (Some h) made k =
     elim (eqb_tells (driver_name k) (driver_name h)) [
       | inl same ↦ let e : k ≡ h = omega (arith, same.1) in rw same.0 (rw (made k) (rw e (sym (buffer_at-same change objects h))))
-      | inr other ↦ rw other.0 (made k ∙ sym (buffer_at-other change objects h k (λ e. other.1 (ap driver_name e))))
+      | inr other ↦ rw other.0 (made k ∙ sym (buffer_at-other (on_buffer change) objects h k (λ e. other.1 (ap driver_name e))))
     ]
 
 -- the bound buffer was changed on both sides
 pub agrees-with_bound : (change : Buffer → Buffer) (w : PageState) (g : DriverState) (target : ℕ) → Agrees w g
-    → Agrees (record w { objects = with_buffer change w.objects (unwrap_or (bound_to w.bound target) 0) }) (with_bound change g target)
+    → Agrees (with_page_buffer change w target) (with_bound change g target)
 agrees-with_bound change w g target a = record {
   made = λ k. rw (bound_to-agrees w g a target) (made-with_bound change w.objects g.buffers (bound_to w.bound target) a.made k);
   others = λ name low. rw (a.others name low) (none-either change _);
@@ -122,6 +83,43 @@ agrees-with_bound change w g target a = record {
   array_there = IsThere-with_buffer change w.objects _ w.bound.array a.array_there;
   element_array_there = IsThere-with_buffer change w.objects _ w.bound.element_array a.element_array_there;
 }
+
+-- a buffer that was changed to the same
+pub same-map : (change : Buffer → Buffer) → ((b : Buffer) → change b ≡ b) → (b : Option Buffer) → option_map change b ≡ b
+same-map change same None = refl
+same-map change same (Some b) = ap Some (same b)
+
+-- the buffers, where that of a handle was changed to the same
+pub buffer_at-unchanged : (change : Buffer → Buffer) (objects : List Object) (handle k : ℕ) → ((b : Buffer) → change b ≡ b)
+    → buffer_at (with_buffer change objects handle) k ≡ buffer_at objects k
+buffer_at-unchanged change objects handle k same =
+    elim (eqb_tells k handle) [
+      | inl own ↦ rw own.1 (buffer_at-same change objects handle ∙ same-map change same (buffer_at objects handle))
+      | inr other ↦ buffer_at-other (on_buffer change) objects handle k other.1
+    ]
+
+-- the bound buffer was changed to the same
+pub agrees-unchanged : (change : Buffer → Buffer) (w : PageState) (g : DriverState) (target : ℕ) → ((b : Buffer) → change b ≡ b) → Agrees w g
+    → Agrees (with_page_buffer change w target) g
+agrees-unchanged change w g target same a = record {
+  made = λ k. a.made k ∙ sym (buffer_at-unchanged change w.objects (unwrap_or (bound_to w.bound target) 0) k same);
+  others = a.others;
+  array = a.array;
+  element_array = a.element_array;
+  array_there = IsThere-with_buffer change w.objects _ w.bound.array a.array_there;
+  element_array_there = IsThere-with_buffer change w.objects _ w.bound.element_array a.element_array_there;
+}
+
+-- the buffer of the driver's name of what is bound, or none
+pub buffer-of-name : (objects : List Object) (buffers : ℕ → Option Buffer) (bound : Option ℕ) → ((handle : ℕ) → buffers (driver_name handle) ≡ buffer_at objects handle)
+    → option_and_then buffers (option_map driver_name bound) ≡ option_and_then (buffer_at objects) bound
+buffer-of-name objects buffers None made = refl
+buffer-of-name objects buffers (Some h) made = made h
+
+-- the bound buffers are the same
+pub bound_buffer-agrees : (w : PageState) (g : DriverState) → Agrees w g → (target : ℕ) → bound_buffer g target ≡ page_buffer w target
+bound_buffer-agrees w g a target =
+    ap (option_and_then g.buffers) (bound_to-agrees w g a target) ∙ buffer-of-name w.objects g.buffers (bound_to w.bound target) a.made
 
 -- the error flags are the page's alone
 pub agrees-errors : (w : PageState) (g : DriverState) (errors : ErrorSet) → Agrees w g → Agrees (record w { errors = errors }) g
@@ -134,40 +132,13 @@ agrees-errors w g errors a = record {
   element_array_there = a.element_array_there;
 }
 
--- the object that was pushed
-pub slice_get-pushed : {A : Type 0} (xs : List A) (x : A) → slice_get (xs ++ x ∷ []) (length xs) ≡ Some x
-slice_get-pushed [] x = refl
-slice_get-pushed (y ∷ xs) x = slice_get-pushed xs x
-
--- the objects before it
-pub slice_get-before : {A : Type 0} (xs : List A) (x : A) (i : ℕ) → (i ≡ length xs → ⊥) → slice_get (xs ++ x ∷ []) i ≡ slice_get xs i
-slice_get-before [] x zero other = absurd (other refl)
-slice_get-before [] x (suc i) other = refl
-slice_get-before (y ∷ xs) x zero other = refl
-slice_get-before (y ∷ xs) x (suc i) other = slice_get-before xs x i (λ e. other (ap suc e))
-
--- the buffer of the next handle, once it was given
-pub buffer_at-pushed : (objects : List Object) (o : Object) → buffer_at (objects ++ o ∷ []) (length objects + 1) ≡ as_buffer o
-buffer_at-pushed objects o =
-    let given : nat_eq (length objects + 1) 0 ≡ false = ne_eqb _ _ (λ e. omega arith) in
-    let place : length objects + 1 - 1 ≡ length objects = omega arith in
-    rw (given, place) (ap (option_and_then as_buffer) (slice_get-pushed objects o))
-
--- the buffers of the other handles
-pub buffer_at-before : (objects : List Object) (o : Object) (k : ℕ) → (k ≡ length objects + 1 → ⊥) → buffer_at (objects ++ o ∷ []) k ≡ buffer_at objects k
-buffer_at-before objects o k other =
-    elim (eqb_tells k 0) [
-      | inl null ↦ rw null.0 refl
-      | inr given ↦ rw given.0 (ap (option_and_then as_buffer) (slice_get-before objects o (k - 1) (λ e. other (omega arith))))
-    ]
-
 -- what is bound is there after one more buffer was made
 pub IsThere-create : (w : PageState) (bound : Option ℕ) → IsThere w.objects bound → IsThere (create_effect w).objects bound
 IsThere-create w None there = there
 IsThere-create w (Some h) there =
     elim (eqb_tells h (length w.objects + 1)) [
-      | inl last ↦ rw last.1 (rw (buffer_at-pushed w.objects (buffer_object new_buffer)) refl)
-      | inr other ↦ rw (buffer_at-before w.objects (buffer_object new_buffer) h other.1) there
+      | inl last ↦ rw last.1 (rw (buffer_at-pushed w.objects (new_object (buffer_content new_buffer))) refl)
+      | inr other ↦ rw (buffer_at-before w.objects (new_object (buffer_content new_buffer)) h other.1) there
     ]
 
 -- a new buffer on both sides
@@ -175,8 +146,8 @@ pub agrees-create : (w : PageState) (g : DriverState) → Agrees w g
     → Agrees (create_effect w) (record g { buffers = with_name g.buffers (driver_name (next_handle w)) (Some new_buffer) })
 agrees-create w g a = record {
   made = λ k. elim (eqb_tells (driver_name k) (driver_name (next_handle w))) [
-    | inl same ↦ let e : k ≡ length w.objects + 1 = omega (arith, same.1) in rw same.0 (rw e (sym (buffer_at-pushed w.objects (buffer_object new_buffer))))
-    | inr other ↦ rw other.0 (a.made k ∙ sym (buffer_at-before w.objects (buffer_object new_buffer) k (λ e. other.1 (ap driver_name e))))
+    | inl same ↦ let e : k ≡ length w.objects + 1 = omega (arith, same.1) in rw same.0 (rw e (sym (buffer_at-pushed w.objects (new_object (buffer_content new_buffer)))))
+    | inr other ↦ rw other.0 (a.made k ∙ sym (buffer_at-before w.objects (new_object (buffer_content new_buffer)) k (λ e. other.1 (ap driver_name e))))
   ];
   others = λ name low. let free : nat_eq name (driver_name (next_handle w)) ≡ false = ne_eqb _ _ (λ e. omega arith) in rw free (a.others name low);
   array = a.array;
@@ -225,7 +196,7 @@ unnamed-other change objects handle k other =
     elim (eqb_tells handle 0) [
       | inl null ↦ rw null.0 refl
       | inr given ↦ let e : bound_name handle ≡ driver_name handle = rw given.0 refl in
-          buffer_at-other change objects handle k (λ same. other (ap driver_name same ∙ sym e))
+          buffer_at-other (on_buffer change) objects handle k (λ same. other (ap driver_name same ∙ sym e))
     ]
 
 -- a buffer of its handle's name was changed on both sides
@@ -284,3 +255,39 @@ agrees-bind w g target handle a there =
       array_there = both.0;
       element_array_there = both.1;
     }
+
+-- a name that was bound is bound no longer
+pub unless_name-driver : (handle : ℕ) (bound : Option ℕ) → unless_name (driver_name handle) (option_map driver_name bound) ≡ option_map driver_name (unless_name handle bound)
+unless_name-driver handle None = refl
+unless_name-driver handle (Some k) =
+    elim (eqb_tells k handle) [
+      | inl same ↦ elim (eqb_tells (driver_name k) (driver_name handle)) [
+        | inl one ↦ rw (same.0, one.0) refl
+        | inr two ↦ absurd (two.1 (ap driver_name same.1))
+      ]
+      | inr other ↦ let e : nat_eq (driver_name k) (driver_name handle) ≡ false = ne_eqb (driver_name k) (driver_name handle) (λ e. other.1 (omega (arith, e))) in rw (other.0, e) refl
+    ]
+
+-- what is bound is there after an object was marked and bound no longer
+pub IsThere-marked : (objects : List Object) (handle : ℕ) (bound : Option ℕ) → IsThere objects bound → IsThere (with_object mark objects handle) (unless_name handle bound)
+IsThere-marked objects handle None there = tt
+IsThere-marked objects handle (Some k) there =
+    elim (eqb_tells k handle) [
+      | inl same ↦ rw same.0 tt
+      | inr other ↦ rw other.0 (rw (buffer_at-other mark objects handle k other.1) there)
+    ]
+
+-- a buffer was deleted on both sides
+pub agrees-delete : (w : PageState) (g : DriverState) (handle : ℕ) → Agrees w g
+    → Agrees (record w { objects = with_object mark w.objects handle; bound = unbind handle w.bound }) (effect g (DropBuffer (driver_name handle)))
+agrees-delete w g handle a = record {
+  made = λ k. elim (eqb_tells (driver_name k) (driver_name handle)) [
+    | inl same ↦ let e : k ≡ handle = omega (arith, same.1) in rw same.0 (rw e (sym (buffer_at-marked w.objects handle)))
+    | inr other ↦ rw other.0 (a.made k ∙ sym (buffer_at-other mark w.objects handle k (λ e. other.1 (ap driver_name e))))
+  ];
+  others = λ name low. let free : nat_eq name (driver_name handle) ≡ false = ne_eqb _ _ (λ e. omega arith) in rw free (a.others name low);
+  array = ap (unless_name (driver_name handle)) a.array ∙ unless_name-driver handle w.bound.array;
+  element_array = ap (unless_name (driver_name handle)) a.element_array ∙ unless_name-driver handle w.bound.element_array;
+  array_there = IsThere-marked w.objects handle w.bound.array a.array_there;
+  element_array_there = IsThere-marked w.objects handle w.bound.element_array a.element_array_there;
+}

@@ -1,5 +1,5 @@
 -- One call answered on both sinks.
-use Rattle.std.proofs.Common.{ℕ, ◌≤◌, Option, List, length, take, Result, Ok, Err, refl, sym, ap, subst, ◌∙◌, arith}
+use Rattle.std.proofs.Common.{◌≡◌, ℕ, ◌≤◌, false, Option, Some, None, List, [], append-nil, length, take, Result, Ok, Err, refl, sym, ap, subst, ◌∙◌, arith}
 use Rattle.std.proofs.Math.Seq.{take-length}
 use Rattle.std.specs.Io.KnownBytes.{append_known}
 use Rattle.wire_io.specs.declared.status.Failed.{Failed}
@@ -12,7 +12,7 @@ use Rattle.session_run.specs.PageStep.{is_want}
 use Rattle.session_run.specs.Sent.{sent}
 use Rattle.session_run.specs.Stands.{Kept}
 use Rattle.session_run.specs.Applied.{Applied, bytes_of}
-use Rattle.session_run.specs.Sessions.{AnswersOne}
+use Rattle.session_run.specs.Sessions.{AnswersOne, OneCut}
 
 -- the reply of a call that was applied, written whole or in part
 pub answered_one : (w : PageState) (call : Call) (kept : Kept) (out0 out stream0 stream : Option (List ℕ)) (reply : Reply) (result : Result (Unit {0}) Failed)
@@ -38,3 +38,23 @@ answered_one w call kept out0 out stream0 stream reply (Err e) a s =
       sends = a.sends ∙ ap (append_known stream0) (sym (take-length bytes));
       after = λ _. refl;
     }
+
+-- nothing is added
+nothing_added : (out : Option (List ℕ)) → out ≡ append_known out []
+nothing_added None = refl
+nothing_added (Some bytes) = ap Some (sym (append-nil bytes))
+
+-- a call whose commands were cut short
+pub cut_one : (w : PageState) (call : Call) (out stream0 stream : Option (List ℕ)) (failed : Failed)
+    → Sends {T = Unit {0}} stream0 stream (Err failed) (bytes_of (sent w call false)) → OneCut w call out out stream0 stream
+cut_one w call out stream0 stream failed s = record {
+  want = false;
+  allowed = λ e. absurd cc;
+  said = 0;
+  done = s.0;
+  said_within = omega arith;
+  done_within = s.1;
+  answered = nothing_added out;
+  sends = s.2;
+  after = λ some. absurd (omega arith);
+}

@@ -1,9 +1,12 @@
-pub mod Objects
+pub mod Handles
+pub mod SentBytes
+pub mod Sound
 pub mod Agreement
 pub mod Following
 pub mod Steps
 pub mod Kept
-pub mod SentBytes
+pub mod Binding
+pub mod Filling
 pub mod Answering
 pub mod Pushing
 pub mod Looping

@@ -1,15 +1,17 @@
 -- The bytes of few commands.
-use Rattle.std.proofs.Common.{ℕ, ◌+◌, ◌≤◌, Option, Result, List, [], ◌∷◌, ◌++◌, length, subst, sym, append-nil, length-append, arith}
+use Rattle.std.proofs.Common.{ℕ, ℤ, ◌+◌, ◌≤◌, Option, Result, List, [], ◌∷◌, ◌++◌, length, subst, sym, append-nil, length-append, arith}
 use Rattle.std.specs.Borrow.{Bor}
 use Rattle.gl_numbers.specs.Bytes.{le32}
 use Rattle.gl_numbers.proofs.Bytes.{length-le32}
 use Rattle.wire_io.specs.Sinks.{Sends}
 use Rattle.command_stream.specs.declared.command.Command.{Command}
-use Rattle.command_stream.specs.declared.command.Command.TheVariants.{MakeBuffer, BindBuffer, BufferSize, BufferBytes}
+use Rattle.command_stream.specs.declared.command.Command.TheVariants.{MakeBuffer, DropBuffer, BindBuffer, BufferSize, BufferBytes}
 use Rattle.command_stream.specs.Commands.{command_spelling, Allowed}
-use Rattle.call_records.specs.declared.calls.Call.TheVariants.{BufferData}
+use Rattle.call_records.specs.declared.calls.Call.TheVariants.{BufferData, BufferSubData}
 use Rattle.call_records.specs.declared.calls.Fill.TheVariants.{Bytes}
 use Rattle.call_records.specs.Records.{Fits}
+use Rattle.call_records.specs.Longs.{le64}
+use Rattle.call_records.proofs.Lengths.{length-le64}
 use Rattle.session_run.specs.Applied.{bytes_of}
 
 -- sending one command is sending a list of one
@@ -29,6 +31,9 @@ allowed_bytes target offset part short = simp (length-append, length-le32) (omeg
 pub allowed_make : (name : ℕ) → Allowed (MakeBuffer name)
 allowed_make name = simp length-le32 (omega arith)
 
+pub allowed_drop : (name : ℕ) → Allowed (DropBuffer name)
+allowed_drop name = simp length-le32 (omega arith)
+
 -- a target's and a name's body is short
 pub allowed_bind : (target name : ℕ) → Allowed (BindBuffer target name)
 allowed_bind target name = simp (length-append, length-le32) (omega arith)
@@ -38,3 +43,9 @@ pub bytes_fit : (target usage : ℕ) (tail : Bor (List ℕ)) → Fits (BufferDat
 bytes_fit target usage tail fits =
     let body : length (le32 target ++ (le32 usage ++ tail.now)) ≤ 16777280 = fits.body in
     omega (arith, simp (length-append, length-le32) at body)
+
+-- the bytes of a bufferSubData are three words shorter, so that they fit a command too
+pub part_fit : (target : ℕ) (offset : ℤ) (tail : Bor (List ℕ)) → Fits (BufferSubData target offset tail) → 8 + length tail.now ≤ 16777280
+part_fit target offset tail fits =
+    let body : length (le32 target ++ (le64 offset ++ tail.now)) ≤ 16777280 = fits.body in
+    omega (arith, simp (length-append, length-le32, length-le64) at body)

@@ -1,13 +1,14 @@
 -- The driver follows every step of the page, and every run of it.
-use Rattle.std.proofs.Common.{◌≡◌, suc, ◌+◌, Bool, true, false, Option, Some, None, List, [], ◌∷◌, ◌++◌, length, refl, ap, ◌∙◌, arith, length-append}
+use Rattle.std.proofs.Common.{◌≡◌, suc, ◌+◌, Bool, true, false, Option, Some, None, List, [], ◌∷◌, ◌++◌, length, replicate, refl, ap, ◌∙◌, arith, length-append}
 use Rattle.std.specs.Prelude.{All}
 use Rattle.std.specs.Option.{option_to_list}
+use Rattle.std.proofs.lemmas.List.{length-replicate}
 use Rattle.gl_numbers.specs.declared.errors.GlError.{GlError}
 use Rattle.gl_numbers.specs.declared.errors.GlError.TheVariants.{Memory}
 use Rattle.call_records.specs.declared.calls.Call.{Call}
-use Rattle.call_records.specs.declared.calls.Call.TheVariants.{Create, BindBuffer, BufferData, GetError}
+use Rattle.call_records.specs.declared.calls.Call.TheVariants.{Create, Delete, IsKind, BindBuffer, BufferData, BufferSubData, GetBufferParameter, GetError}
 use Rattle.call_records.specs.declared.calls.New.TheVariants.{Buffer}
-use Rattle.call_records.specs.declared.calls.Fill.TheVariants.{Bytes}
+use Rattle.call_records.specs.declared.calls.Fill.TheVariants.{Size, Bytes}
 use Rattle.call_records.specs.Records.{Fits}
 use Rattle.command_stream.specs.declared.command.Command.{Command}
 use Rattle.gl_model.specs.PageState.{PageState}
@@ -17,6 +18,7 @@ use Rattle.gl_model.specs.Replay.{clean}
 use Rattle.gl_model.specs.Shot.{Shot}
 use Rattle.gl_model.proofs.Replaying.{replay-none, replay-append, resumed}
 use Rattle.session_run.specs.ErrorRecords.{error_effect}
+use Rattle.session_run.specs.BufferRecords.{whole}
 use Rattle.session_run.specs.PageStep.{refusal, step, step_judged, effect, is_want}
 use Rattle.session_run.specs.PageRun.{Taken, step_taken, page_after, shots}
 use Rattle.session_run.specs.Sent.{sent, sent_judged, commands_of, all_sent}
@@ -27,8 +29,8 @@ use Rattle.session_run.specs.Applied.{Applies, StepsOrStops}
 use Rattle.session_run.specs.Stands.{Kept, Agrees, Stands}
 use Rattle.session_run.specs.Follows.{Follows}
 use Rattle.session_run.proofs.Agreement.{agrees-errors}
-use Rattle.session_run.proofs.Following.{follows-create, follows-bind, follows-data}
-use Rattle.session_run.proofs.SentBytes.{bytes_fit}
+use Rattle.session_run.proofs.Following.{follows-none, follows-create, follows-delete, follows-bind, follows-size, follows-data, follows-sub_data}
+use Rattle.session_run.proofs.Sound.{content-small}
 
 -- nothing was sent, and only the error flags changed
 pub follows-silent : (w : PageState) (g : DriverState) (errors : ErrorSet) → Agrees w g → Follows g [] [] (record w { errors = errors })
@@ -37,9 +39,18 @@ follows-silent w g errors a = record { driver = g; replayed = replay-none g; agr
 -- a call that acts
 pub follows-acted : (w : PageState) (g : DriverState) (call : Call) → Agrees w g → Fits call → refusal w call ≡ None → Follows g (commands_of w call) [] (effect w call)
 follows-acted w g (Create Buffer) a fits unrefused = follows-create w g a
+follows-acted w g (Delete kind handle) a fits unrefused = follows-delete w g kind handle a
+follows-acted w g (IsKind kind handle) a fits unrefused = follows-none w g a
 follows-acted w g (BindBuffer target handle) a fits unrefused = follows-bind w g target handle a unrefused
+follows-acted w g (BufferData target usage (Size size)) a fits unrefused =
+    let small = content-small w target usage (Size size) fits unrefused in
+    let zeros : List ℕ = replicate (whole size) 0 in
+    let counted : length zeros ≡ whole size = length-replicate (whole size) 0 in
+    follows-size w g target usage (whole size) (Size size) a (omega (arith, small, counted)) unrefused
 follows-acted w g (BufferData target usage (Bytes bytes)) a fits unrefused =
-    let short = bytes_fit target usage bytes fits in follows-data w g target usage bytes a (omega (arith, short)) unrefused
+    follows-data w g target usage bytes (Bytes bytes) a (content-small w target usage (Bytes bytes) fits unrefused) unrefused
+follows-acted w g (BufferSubData target offset part) a fits unrefused = follows-sub_data w g target offset part a unrefused
+follows-acted w g (GetBufferParameter target name) a fits unrefused = follows-none w g a
 follows-acted w g GetError a fits unrefused = follows-silent w g (error_effect w).errors a
 
 -- a call whose refusal was judged

@@ -1,5 +1,5 @@
 -- From the loop over records to what a run did with all its bytes.
-use Rattle.std.proofs.Common.{◌≡◌, ℕ, suc, ◌+◌, ◌≤◌, Option, Some, None, List, [], ◌∷◌, ◌++◌, length, take, map, Result, Ok, Err, refl, sym, ap, subst, ◌∙◌, arith, inl, inr, lit≤, append-nil, append_assoc, length-append}
+use Rattle.std.proofs.Common.{◌≡◌, ℕ, suc, ◌+◌, ◌≤◌, Option, Some, None, List, [], ◌∷◌, ◌++◌, length, take, map, Result, Ok, Err, refl, sym, ap, subst, ◌∙◌, arith, inl, inr, append-nil, append_assoc, length-append}
 use Rattle.std.proofs.Math.Seq.{take-append-add}
 use Rattle.std.specs.Io.KnownBytes.{prepend_known, append_known}
 use Rattle.wire_io.specs.Sources.{WhereTold}
@@ -23,6 +23,7 @@ use Rattle.session_run.specs.declared.session.RunEnd.{RunEnd}
 use Rattle.session_run.specs.declared.session.RunEnd.TheVariants.{Read, Write}
 use Rattle.session_run.proofs.OneSession.{session-one, All-map}
 use Rattle.session_run.proofs.OneStream.{fits-all, one-replay}
+use Rattle.session_run.proofs.Sound.{sound-first}
 use Rattle.session_run.proofs.Steps.{follows-all}
 use Rattle.session_run.proofs.Looping.{none-taken}
 use Rattle.gl_model.proofs.Replaying.{replay-front}
@@ -92,7 +93,7 @@ pub served : (taken : List Taken) (answered sends : List ℕ) → AreTaken taken
     → Served taken answered sends
 served taken answered sends are a s =
     let follows = follows-all first_page first_driver taken agrees-first are.fits in
-    let fit = fits-all first_page taken (lit≤ tt) are.fits in
+    let fit = fits-all first_page taken sound-first are.fits in
     record {
       are = are;
       replied = a;

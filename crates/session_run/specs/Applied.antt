@@ -1,19 +1,18 @@
 -- What the page does with one call, seen from the page's state that stands for it.
-use Rattle.std.specs.Prelude.{◌≡◌, ℕ, ◌<◌, ◌≤◌, true, false, Option, List, length, Result, Ok, Err}
+use Rattle.std.specs.Prelude.{◌≡◌, ℕ, ◌⊎◌, true, false, Option, Some, None, List, Result, Ok, Err}
 use Rattle.std.specs.List.{flat_map}
 use Rattle.std.specs.Io.KnownBytes.{append_known}
-use Rattle.gl_numbers.specs.declared.errors.Memory as Errors
+use Rattle.gl_numbers.specs.declared.errors.GlError.{GlError}
+use Rattle.gl_numbers.specs.declared.errors.GlError.TheVariants.{Memory}
 use Rattle.wire_io.specs.declared.status.Failed.{Failed}
 use Rattle.wire_io.specs.Sinks.{Sends}
 use Rattle.call_records.specs.declared.calls.Call.{Call}
-use Rattle.call_records.specs.declared.calls.Call.TheVariants.{Create, BindBuffer, BufferData, GetError}
-use Rattle.call_records.specs.declared.calls.New.TheVariants.{Buffer}
 use Rattle.call_records.specs.declared.replies.Reply.{Reply}
 use Rattle.call_records.specs.declared.replies.Value.{Value}
 use Rattle.command_stream.specs.declared.command.Command.{Command}
 use Rattle.command_stream.specs.Commands.{command_spelling}
 use Rattle.gl_model.specs.PageState.{PageState}
-use Rattle.session_run.specs.PageStep.{may_want, effect, value, step, MayWant, is_want}
+use Rattle.session_run.specs.PageStep.{refusal, effect, value, step, MayWant, is_want}
 use Rattle.session_run.specs.Sent.{commands_of, sent}
 use Rattle.std.specs.Option.{option_to_list}
 use Rattle.gl_model.specs.DriverState.{DriverState}
@@ -24,19 +23,27 @@ use Rattle.session_run.specs.Stands.{Kept, Keeps, Stands}
 abbrev pub bytes_of : List Command → List ℕ
 bytes_of commands = flat_map command_spelling commands
 
--- what a call needs of the page where nothing refuses it: a handle is left, or the handle was given
-abbrev pub HasHandle : Kept → Call → Type 0
-HasHandle kept (Create Buffer) = length kept.first_targets < 1048576
-HasHandle kept (BindBuffer target handle) = handle ≤ length kept.first_targets
-HasHandle kept (BufferData target usage fill) = Unit {0}
-HasHandle kept GetError = Unit {0}
+-- why a call answers an error: it is refused with it, or memory is wanting
+abbrev pub HasReason : PageState → Call → GlError → Type 0
+HasReason w call error = (refusal w call ≡ Some error) ⊎ ((error ≡ Memory) × MayWant w call)
 
--- a call that nothing refuses acted, or wanted memory and changed nothing, or its commands were cut short
-abbrev pub Acts : PageState → Call → Kept → Kept → Option (List ℕ) → Option (List ℕ) → Result (Result Value Errors.Memory) Failed → Type 0
-Acts w call before kept old new (Ok (Ok answer)) =
-    (answer ≡ value w call) × Keeps kept (effect w call) × (new ≡ append_known old (bytes_of (commands_of w call)))
-Acts w call before kept old new (Ok (Err wanting)) = (may_want call ≡ true) × (kept ≡ before) × (new ≡ old)
-Acts w call before kept old new (Err failed) = Sends {T = Unit {0}} old new (Err failed) (bytes_of (commands_of w call))
+-- the page's own part of a call: it acted, or answers an error and stands for the same
+abbrev pub Does : {T : Type 0} → PageState → Call → Kept → Result T GlError → Type 0
+Does w call kept (Ok _) = (refusal w call ≡ None) × Keeps kept (effect w call)
+Does w call kept (Err error) = HasReason w call error × Keeps kept w
+
+-- the answer of a call that changes nothing
+abbrev pub Answers : PageState → Call → Result Value GlError → Type 0
+Answers w call (Ok answer) = (refusal w call ≡ None) × (answer ≡ value w call)
+Answers w call (Err error) = refusal w call ≡ Some error
+
+-- a call acted and its commands were sent, or it answers an error and sent nothing, or its commands were cut short
+abbrev pub Acts : PageState → Call → Kept → Option (List ℕ) → Option (List ℕ) → Result (Result Value GlError) Failed → Type 0
+Acts w call kept old new (Ok (Ok answer)) =
+    (refusal w call ≡ None) × (answer ≡ value w call) × Keeps kept (effect w call) × (new ≡ append_known old (bytes_of (commands_of w call)))
+Acts w call kept old new (Ok (Err error)) = HasReason w call error × Keeps kept w × (new ≡ old)
+Acts w call kept old new (Err failed) =
+    (refusal w call ≡ None) × Sends {T = Unit {0}} old new (Err failed) (bytes_of (commands_of w call))
 
 -- a call was answered by a step of the page's machine, and its commands were sent; memory was wanting where the reply
 -- says so

@@ -7,7 +7,7 @@ use Rattle.gl_numbers.specs.declared.errors.TheConstants.{NO_ERROR, OUT_OF_MEMOR
 use Rattle.gl_numbers.specs.declared.errors.GlError.{GlError}
 use Rattle.gl_numbers.specs.declared.errors.GlError.TheVariants.{Memory}
 use Rattle.call_records.specs.declared.calls.Call.{Call}
-use Rattle.call_records.specs.declared.calls.Call.TheVariants.{Create, BindBuffer, BufferData, GetError}
+use Rattle.call_records.specs.declared.calls.Call.TheVariants.{Create, Delete, IsKind, BindBuffer, BufferData, BufferSubData, GetBufferParameter, GetError}
 use Rattle.call_records.specs.declared.calls.New.TheVariants.{Buffer}
 use Rattle.call_records.specs.declared.replies.Reply.{Reply}
 use Rattle.call_records.specs.declared.replies.Value.{Value}
@@ -16,14 +16,19 @@ use Rattle.gl_model.specs.Refusals.{Rule, first_refusal}
 use Rattle.gl_model.specs.Errors.{raise}
 use Rattle.gl_model.specs.PageState.{PageState}
 use Rattle.gl_model.specs.Shot.{Shot}
-use Rattle.session_run.specs.BufferRecords.{create_rules, create_effect, next_handle, bind_rules, bind_effect, content_of, data_rules, data_effect}
+use Rattle.session_run.specs.ObjectRecords.{create_rules, create_effect, next_handle, delete_rules, delete_effect, is_kind_answer}
+use Rattle.session_run.specs.BufferRecords.{bind_rules, bind_effect, content_of, data_rules, data_effect, sub_data_rules, sub_data_effect, parameter_rules, parameter_answer}
 use Rattle.session_run.specs.ErrorRecords.{error_answer, error_effect}
 
 -- the rules that refuse a call, in their order
 abbrev pub rules : PageState → Call → List Rule
 rules w (Create Buffer) = create_rules w
+rules w (Delete kind handle) = delete_rules w kind handle
+rules w (IsKind kind handle) = []
 rules w (BindBuffer target handle) = bind_rules w target handle
-rules w (BufferData target usage fill) = data_rules w target usage
+rules w (BufferData target usage fill) = data_rules w target usage fill
+rules w (BufferSubData target offset part) = sub_data_rules w target offset part.now
+rules w (GetBufferParameter target name) = parameter_rules w target name
 rules w GetError = []
 
 -- why a call is refused, if it is
@@ -33,22 +38,29 @@ refusal w call = first_refusal (rules w call)
 -- a call that nothing refuses may be answered that memory is wanting
 abbrev pub may_want : Call → Bool
 may_want (Create Buffer) = true
-may_want (BindBuffer target handle) = false
 may_want (BufferData target usage fill) = target == ELEMENT_ARRAY_BUFFER
-may_want GetError = false
+may_want _ = false
 
 -- what a call does that nothing refuses
 abbrev pub effect : PageState → Call → PageState
 effect w (Create Buffer) = create_effect w
+effect w (Delete kind handle) = delete_effect w kind handle
+effect w (IsKind kind handle) = w
 effect w (BindBuffer target handle) = bind_effect w target handle
 effect w (BufferData target usage fill) = data_effect w target usage (content_of fill)
+effect w (BufferSubData target offset part) = sub_data_effect w target offset part.now
+effect w (GetBufferParameter target name) = w
 effect w GetError = error_effect w
 
 -- what a call answers that nothing refuses
 abbrev pub value : PageState → Call → Value
 value w (Create Buffer) = Number (next_handle w)
+value w (Delete kind handle) = Nothing
+value w (IsKind kind handle) = Number (is_kind_answer w kind handle)
 value w (BindBuffer target handle) = Nothing
 value w (BufferData target usage fill) = Nothing
+value w (BufferSubData target offset part) = Nothing
+value w (GetBufferParameter target name) = Number (parameter_answer w target name)
 value w GetError = Number (error_answer w)
 
 -- the Shot of a call that nothing refuses; none of these makes one

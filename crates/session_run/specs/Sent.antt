@@ -1,14 +1,16 @@
 -- The commands that each call sends to the driver.
 use Rattle.std.specs.Prelude.{◌≡◌, ℕ, ◌+◌, Bool, true, false, Option, Some, None, List, [], ◌∷◌, ◌++◌, length, ◌==◌, if◌then◌else◌}
+use Rattle.std.specs.Borrow.{Bor}
 use Rattle.gl_numbers.specs.declared.errors.GlError.{GlError}
 use Rattle.call_records.specs.declared.calls.Call.{Call}
 use Rattle.call_records.specs.declared.calls.New.TheVariants.{Buffer}
-use Rattle.call_records.specs.declared.calls.Fill.TheVariants.{Bytes}
+use Rattle.call_records.specs.declared.calls.Fill.TheVariants.{Size, Bytes}
 use Rattle.command_stream.specs.declared.command.Command.{Command}
-use Rattle.command_stream.specs.declared.command.Command.TheVariants.{MakeBuffer, BindBuffer, BufferSize, BufferBytes}
+use Rattle.command_stream.specs.declared.command.Command.TheVariants.{MakeBuffer, DropBuffer, BindBuffer, BufferSize, BufferBytes}
 use Rattle.gl_model.specs.Errors.{raise}
-use Rattle.gl_model.specs.PageState.{PageState}
-use Rattle.session_run.specs.BufferRecords.{next_handle}
+use Rattle.gl_model.specs.PageState.{PageState, is_live}
+use Rattle.session_run.specs.ObjectRecords.{next_handle}
+use Rattle.session_run.specs.BufferRecords.{whole}
 use Rattle.session_run.specs.PageStep.{refusal}
 use Rattle.session_run.specs.PageRun.{Taken, step_taken}
 
@@ -20,12 +22,20 @@ driver_name handle = handle + 2
 abbrev pub bound_name : ℕ → ℕ
 bound_name handle = if handle == 0 then 0 else driver_name handle
 
+-- bytes are sent where there are any
+abbrev pub bytes_sent : ℕ → ℕ → Bor (List ℕ) → List Command
+bytes_sent target offset bytes = if length bytes.now == 0 then [] else BufferBytes target offset bytes ∷ []
+
 -- the commands of a call that acts
 abbrev pub commands_of : PageState → Call → List Command
 commands_of w (Call.Create Buffer) = MakeBuffer (driver_name (next_handle w)) ∷ []
+commands_of w (Call.Delete kind handle) = if is_live w.objects kind handle then DropBuffer (driver_name handle) ∷ [] else []
+commands_of w (Call.IsKind kind handle) = []
 commands_of w (Call.BindBuffer target handle) = BindBuffer target (bound_name handle) ∷ []
-commands_of w (Call.BufferData target usage (Bytes bytes)) =
-    BufferSize target usage (length bytes.now) ∷ (if length bytes.now == 0 then [] else BufferBytes target 0 bytes ∷ [])
+commands_of w (Call.BufferData target usage (Size size)) = BufferSize target usage (whole size) ∷ []
+commands_of w (Call.BufferData target usage (Bytes bytes)) = BufferSize target usage (length bytes.now) ∷ bytes_sent target 0 bytes
+commands_of w (Call.BufferSubData target offset bytes) = bytes_sent target (whole offset) bytes
+commands_of w (Call.GetBufferParameter target name) = []
 commands_of w Call.GetError = []
 
 -- the commands of a call whose refusal was judged

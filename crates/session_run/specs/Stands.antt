@@ -1,40 +1,56 @@
 -- What stands for what: the page as the code keeps it, the page's state, and the driver's state.
-use Rattle.std.specs.Prelude.{◌≡◌, ℕ, ◌-◌, ◌<◌, ◌==◌, if◌then◌else◌, Option, None, IsSome, IfSome, List, map}
-use Rattle.std.specs.Option.{option_map, option_or}
+use Rattle.std.specs.Prelude.{◌≡◌, ℕ, ◌<◌, Option, None, Some, IsSome, IfSome, List, [], length, map}
+use Rattle.std.specs.Option.{option_map}
+use Rattle.std.specs.FinMap.{get}
+use Rattle.gl_numbers.specs.declared.kinds.Kind as Kinds
+use Rattle.gl_numbers.specs.declared.kinds.Kind.TheVariants as kind
 use Rattle.gl_numbers.specs.declared.buffer_words.BufferTarget.{BufferTarget}
+use Rattle.gl_numbers.specs.declared.buffer_words.BufferTarget.TheVariants.{Array, ElementArray}
+use Rattle.object_names.specs.Objects as Names
+use Rattle.buffer_store.specs.Buffer as Store
+use Rattle.buffer_store.specs.Stored.{Stored}
 use Rattle.gl_model.specs.Errors.{ErrorSet}
-use Rattle.gl_model.specs.Buffers.{Bindings, bind, non_zero}
-use Rattle.gl_model.specs.PageState.{PageState, Object, buffer_object, buffer_at, changed_at}
+use Rattle.gl_model.specs.Buffers.{Buffer}
+use Rattle.gl_model.specs.PageState.{PageState, Object, Content, buffer_content, buffer_at, IsSound}
 use Rattle.gl_model.specs.DriverState.{DriverState}
 use Rattle.session_run.specs.Sent.{driver_name}
 
--- what the code keeps of the page: each buffer's first target, the bindings and the error flags
+-- what the code keeps of the page: the names, the buffers with what is bound, and the error flags
 pub record Kept : Type 0 where
-  pub first_targets : List (Option BufferTarget)
-  pub bound : Bindings
+  pub names : Names.Given
+  pub buffers : Stored
   pub errors : ErrorSet
 
--- the first target of an object that is a buffer
-abbrev pub object_target : Object → Option BufferTarget
-object_target (buffer_object b) = b.first_target
+-- the kind of a content
+abbrev pub kind_of : Content → Kinds.Kind
+kind_of (buffer_content b) = kind.Buffer
 
--- a handle's buffer takes a target where it had none; the handle 0 names none
-abbrev pub with_target : Option BufferTarget → List (Option BufferTarget) → ℕ → List (Option BufferTarget)
-with_target wanted targets handle =
-    if handle == 0 then targets else changed_at (λ first. option_or first wanted) targets (handle - 1)
+-- how an object is named: its kind and its mark; nothing holds a buffer but what is bound, which a delete resets
+abbrev pub named_object : Object → Names.Object
+named_object o = record { kind = kind_of o.content; marked = o.marked; holds = 0 }
 
--- what is kept after a buffer, or none, was bound to a target
-abbrev pub kept_bound : Kept → Option BufferTarget → ℕ → Kept
-kept_bound kept target handle = record kept {
-  first_targets = with_target target kept.first_targets handle;
-  bound = bind target (non_zero handle) kept.bound;
-}
+-- of a buffer's bytes those of indices are kept
+abbrev pub kept_bytes : Option BufferTarget → List ℕ → List ℕ
+kept_bytes (Some ElementArray) bytes = bytes
+kept_bytes (Some Array) bytes = []
+kept_bytes None bytes = []
+
+-- how a buffer is stored
+abbrev pub stored_buffer : Buffer → Store.Buffer
+stored_buffer b = record { first_target = b.first_target; size = length b.bytes; usage = b.usage; bytes = kept_bytes b.first_target b.bytes }
 
 -- what is kept is that part of the page's state
 pub record Keeps (kept : Kept) (w : PageState) : Type 0 where
-  pub first_targets : kept.first_targets ≡ map object_target w.objects
-  pub bound : kept.bound ≡ w.bound
+  pub names : kept.names.objects ≡ map named_object w.objects
+  pub buffers : (handle : ℕ) → get kept.buffers.buffers handle ≡ option_map stored_buffer (buffer_at w.objects handle)
+  pub array : kept.buffers.array ≡ w.bound.array
+  pub element_array : kept.buffers.element_array ≡ w.bound.element_array
   pub errors : kept.errors ≡ w.errors
+  pub sound : IsSound w
+
+-- what is kept stands for some page's state
+abbrev pub IsKept : Kept → Type 0
+IsKept kept = (w : PageState) × Keeps kept w
 
 -- the buffer that a binding names is there
 abbrev pub IsThere : List Object → Option ℕ → Type 0

@@ -3,7 +3,7 @@ ghost use Rattle.wire_io.specs.Faults.{HasCause};
 ghost use Rattle.call_records.specs.Records.{Fits, session};
 ghost use Rattle.call_records.specs.declared.calls.Call as Calls;
 ghost use Rattle.gl_model.specs.PageState.{PageState, first_page};
-ghost use Rattle.session_run.specs.Stands.{Keeps};
+ghost use Rattle.session_run.specs.Stands.{Keeps, IsKept};
 ghost use Rattle.session_run.specs.Sessions.{AnswersOne, RunsRecords, IsRecordsEnd};
 ghost use Rattle.session_run.specs.Outcomes.{Did, Outcome, WhereAllTold, ReadsAs, Untouched, IsSessionStatus, IsComplete, status_of};
 ghost use Rattle.session_run.specs.Causes.{AnswerCause, RunCause, Finishes, SessionCause, Faultless};
@@ -32,7 +32,8 @@ fn answer<O: Sink, T: Sink>(
     out: &mut O,
     stream: &mut T,
 ) -> Result<(), Failed>
-    requires { Fits call.now }
+    requires fits { Fits call.now }
+    requires kept { IsKept page.old }
     ensures answers { (w : PageState) → Keeps page.old w → AnswersOne w call.now page.new (O.held out.old) (O.held out.new) (T.held stream.old) (T.held stream.new) result }
     ensures cause { AnswerCause (O.faults out.old) (O.faults out.new) (T.faults stream.old) (T.faults stream.new) result }
 {
