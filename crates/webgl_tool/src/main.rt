@@ -6,6 +6,8 @@
 #![tactic(auto)]
 
 #[cfg(test)]
+mod buffer_tests;
+#[cfg(test)]
 mod replay_tests;
 #[cfg(test)]
 mod tests;
