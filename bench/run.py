@@ -1,10 +1,12 @@
 #!/usr/bin/env python3
-"""Measures the built program on large sessions, beside a pipe of the same bytes.
+"""Measures the built program on large sessions and streams, beside a pipe of the same bytes.
 
 It makes three sessions in a folder of its own: a million getError records; a million records of createBuffer, bindBuffer,
 bufferData of 16 bytes and getError in turn; and 64 bufferData records of 16 MiB. It runs the program on each, with the
 replies to /dev/null and the stream to a file, and prints the best of five rates, with the outputs removed before each
-run, beside that of `cat INPUT | cat > OUT` of the same input; and how many system calls the program makes.
+run, beside that of `cat INPUT | cat > OUT` of the same input; and how many system calls the program makes. Then it makes
+a stream of 100,000 small commands, MakeBuffer, BindBuffer, BufferSize and BufferBytes of 16 bytes in turn, and does the
+same with `replay`.
 
 usage: bench/run.py [FOLDER]      (about 2.2 GB; a temporary folder that is removed, where none is given)
 """
@@ -24,6 +26,7 @@ RUNS = 5
 ARRAY_BUFFER, STATIC_DRAW = 0x8892, 0x88E4
 MANY = 1_000_000
 BODIES, BODY = 64, 16 * 1024 * 1024
+COMMANDS = 100_000
 
 
 def words(*numbers):
@@ -80,6 +83,15 @@ def write_session(path, parts):
         session.write(record(0))
 
 
+def write_stream(path):
+    with open(path, "wb") as stream:
+        stream.write(b"ESCS" + words(1))
+        for name in range(3, 3 + COMMANDS // 4):
+            stream.write(record(1, words(name)) + record(11, words(ARRAY_BUFFER, name)))
+            stream.write(record(12, words(ARRAY_BUFFER, STATIC_DRAW, 16)))
+            stream.write(record(13, words(ARRAY_BUFFER, 0, name, 0, 0, 0)))
+
+
 def seconds(run, out):
     """The least of the times of a few runs, each without the output of the one before."""
     best = float("inf")
@@ -103,34 +115,46 @@ def run_tool(session, stream, before=()):
         )
 
 
+def replay(stream, line, before=()):
+    with open(stream, "rb") as source, open(line, "wb") as out:
+        subprocess.run([*before, str(TOOL), "replay"], stdin=source, stdout=out, check=True)
+
+
 def run_pipe(session, copy):
     subprocess.run(["sh", "-c", 'cat "$0" | cat > "$1"', str(session), str(copy)], check=True)
 
 
-def system_calls(session, stream):
+def system_calls(run, source, out):
     """How many system calls a run makes, where strace can count them."""
     if shutil.which("strace") is None:
         return "not counted: there is no strace"
-    stream.unlink(missing_ok=True)
-    report = stream.with_suffix(".strace")
-    run_tool(session, stream, ["strace", "-c", "-f", "-o", str(report)])
+    out.unlink(missing_ok=True)
+    report = out.with_suffix(".strace")
+    run(source, out, ["strace", "-c", "-f", "-o", str(report)])
     total = re.search(r"^\s*100\.00\s+\S+\s+(?:\d+\s+)?(\d+)\s.*total$", report.read_text(), re.M)
     report.unlink()
     return total.group(1) if total else "not counted"
 
 
+def compare(name, count, unit, run, source, out, copy):
+    """The rates of a run and of a pipe of the same bytes, each the best of a few."""
+    size = source.stat().st_size
+    tool = seconds(lambda: run(source, out), out)
+    pipe = seconds(lambda: run_pipe(source, copy), copy)
+    print(f"{count} {name}, {size} bytes")
+    print(f"  webgl_tool   {tool:8.3f} s {size / tool / 1e6:10.1f} MB/s {count / tool:12.0f} {unit}/s")
+    print(f"  cat | cat    {pipe:8.3f} s {size / pipe / 1e6:10.1f} MB/s")
+    print(f"  {pipe / tool:.2f} of the pipe's rate; system calls: {system_calls(run, source, out)}", flush=True)
+    out.unlink(missing_ok=True)
+
+
 def measure(folder):
-    session, stream, copy = (folder / name for name in ("session.wglr", "stream.bin", "copy.bin"))
+    source, out, copy = (folder / name for name in ("source.bin", "out.bin", "copy.bin"))
     for name, parts, records in SESSIONS:
-        write_session(session, parts)
-        size = session.stat().st_size
-        tool = seconds(lambda: run_tool(session, stream), stream)
-        pipe = seconds(lambda: run_pipe(session, copy), copy)
-        print(f"{records} {name}, {size} bytes")
-        print(f"  webgl_tool   {tool:8.3f} s {size / tool / 1e6:10.1f} MB/s {records / tool:12.0f} records/s")
-        print(f"  cat | cat    {pipe:8.3f} s {size / pipe / 1e6:10.1f} MB/s")
-        print(f"  {pipe / tool:.2f} of the pipe's rate; system calls: {system_calls(session, stream)}", flush=True)
-        stream.unlink(missing_ok=True)
+        write_session(source, parts)
+        compare(name, records, "records", run_tool, source, out, copy)
+    write_stream(source)
+    compare("small commands to replay", COMMANDS, "commands", replay, source, out, copy)
 
 
 def main():

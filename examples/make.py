@@ -1,5 +1,6 @@
 #!/usr/bin/env python3
-"""Writes the example sessions, and beside each the replies and the stream that are expected of it.
+"""Writes the example sessions, and beside each what is expected of it: the replies, the stream, and the line that a replay of
+the stream prints.
 
 Each example is a list of calls. Beside each call stand the reply that WebGL 1.0 asks for, and the commands that the
 driver is sent, both written by hand: nothing here runs the tool, and nothing here judges a call.
@@ -13,12 +14,17 @@ import sys
 
 ARRAY_BUFFER, ELEMENT_ARRAY_BUFFER = 0x8892, 0x8893
 STREAM_DRAW, STATIC_DRAW, DYNAMIC_DRAW = 0x88E0, 0x88E4, 0x88E8
-NO_ERROR, INVALID_ENUM, INVALID_OPERATION = 0, 0x0500, 0x0502
+NO_ERROR, INVALID_ENUM, INVALID_VALUE, INVALID_OPERATION = 0, 0x0500, 0x0501, 0x0502
+BUFFER_SIZE, BUFFER_USAGE = 0x8764, 0x8765
 NULL = 0
 
 
 def words(*numbers):
     return b"".join(struct.pack("<I", number) for number in numbers)
+
+
+def long(number):
+    return struct.pack("<q", number)
 
 
 def framed(operation, body):
@@ -34,8 +40,28 @@ def bind_buffer(target, handle):
     return framed(19, words(target, handle))
 
 
+def delete_buffer(handle):
+    return framed(7, words(handle))
+
+
+def is_buffer(handle):
+    return framed(13, words(handle))
+
+
+def buffer_size(target, usage, size):
+    return framed(20, words(target, usage) + long(size))
+
+
 def buffer_data(target, usage, data):
     return framed(21, words(target, usage) + data)
+
+
+def buffer_sub_data(target, offset, data):
+    return framed(22, words(target) + long(offset) + data)
+
+
+def get_buffer_parameter(target, name):
+    return framed(23, words(target, name))
 
 
 def get_error():
@@ -62,6 +88,10 @@ def refused(code):
 # The commands of a stream.
 def make_buffer_command(name):
     return framed(1, words(name))
+
+
+def drop_buffer_command(name):
+    return framed(6, words(name))
 
 
 def bind_buffer_command(target, name):
@@ -149,16 +179,52 @@ REFUSALS = [
 ]
 
 
+# A buffer is given a size and patched, and deleted. A deleted buffer is bound no longer, and its handle names none.
+DELETION = [
+    (create_buffer(), number(1), [make_buffer_command(3)]),
+    (is_buffer(1), number(1), []),
+    (bind_buffer(ELEMENT_ARRAY_BUFFER, 1), done(), [bind_buffer_command(ELEMENT_ARRAY_BUFFER, 3)]),
+    # a size that no buffer has
+    (buffer_size(ELEMENT_ARRAY_BUFFER, STATIC_DRAW, -1), refused(INVALID_VALUE), []),
+    (
+        buffer_size(ELEMENT_ARRAY_BUFFER, DYNAMIC_DRAW, 8),
+        done(),
+        [buffer_size_command(ELEMENT_ARRAY_BUFFER, DYNAMIC_DRAW, 8)],
+    ),
+    (
+        buffer_sub_data(ELEMENT_ARRAY_BUFFER, 2, INDICES),
+        done(),
+        [buffer_bytes_command(ELEMENT_ARRAY_BUFFER, 2, INDICES)],
+    ),
+    # one byte past the end
+    (buffer_sub_data(ELEMENT_ARRAY_BUFFER, 3, INDICES), refused(INVALID_VALUE), []),
+    (get_buffer_parameter(ELEMENT_ARRAY_BUFFER, BUFFER_SIZE), number(8), []),
+    (get_buffer_parameter(ELEMENT_ARRAY_BUFFER, BUFFER_USAGE), number(DYNAMIC_DRAW), []),
+    (delete_buffer(1), done(), [drop_buffer_command(3)]),
+    # once more, and of null, it does nothing
+    (delete_buffer(1), done(), []),
+    (delete_buffer(NULL), done(), []),
+    (is_buffer(1), number(0), []),
+    (bind_buffer(ELEMENT_ARRAY_BUFFER, 1), refused(INVALID_OPERATION), []),
+    (get_buffer_parameter(ELEMENT_ARRAY_BUFFER, BUFFER_SIZE), refused(INVALID_OPERATION), []),
+    (get_error(), number(INVALID_VALUE), []),
+    (get_error(), number(INVALID_OPERATION), []),
+    (get_error(), number(NO_ERROR), []),
+]
+
+
 def main():
     here = pathlib.Path(__file__).parent
     folder = pathlib.Path(sys.argv[1]) if len(sys.argv) > 1 else here
-    for name, calls in (("buffers", BUFFERS), ("refusals", REFUSALS)):
+    for name, calls in (("buffers", BUFFERS), ("refusals", REFUSALS), ("deletion", DELETION)):
         records = [record for record, _, _ in calls]
         replies = [reply for _, reply, _ in calls]
         commands = [command for _, _, some in calls for command in some]
         (folder / f"{name}.wglr").write_bytes(session(records))
         (folder / f"{name}.replies").write_bytes(b"".join(replies))
         (folder / f"{name}.stream").write_bytes(stream(commands))
+        line = f"commands {len(commands)} draws 0 clears 0 mipmaps 0\n"
+        (folder / f"{name}.replayed").write_text(line)
 
 
 if __name__ == "__main__":

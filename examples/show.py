@@ -8,14 +8,30 @@ import pathlib
 import struct
 import sys
 
-CALLS = {1: "createBuffer", 19: "bindBuffer", 21: "bufferData", 86: "getError"}
-COMMANDS = {1: "MakeBuffer", 11: "BindBuffer", 12: "BufferSize", 13: "BufferBytes"}
+CALLS = {
+    1: "createBuffer",
+    7: "deleteBuffer",
+    13: "isBuffer",
+    19: "bindBuffer",
+    20: "bufferSize",
+    21: "bufferData",
+    22: "bufferSubData",
+    23: "getBufferParameter",
+    86: "getError",
+}
+COMMANDS = {1: "MakeBuffer", 6: "DropBuffer", 11: "BindBuffer", 12: "BufferSize", 13: "BufferBytes"}
 FIELDS = {
     "createBuffer": [],
+    "deleteBuffer": ["handle"],
+    "isBuffer": ["handle"],
     "bindBuffer": ["target", "handle"],
+    "bufferSize": ["target", "usage", "long"],
     "bufferData": ["target", "usage"],
+    "bufferSubData": ["target", "long"],
+    "getBufferParameter": ["target", "parameter"],
     "getError": [],
     "MakeBuffer": ["name"],
+    "DropBuffer": ["name"],
     "BindBuffer": ["target", "name"],
     "BufferSize": ["target", "usage", "size"],
     "BufferBytes": ["target", "offset"],
@@ -23,6 +39,7 @@ FIELDS = {
 WORDS = {
     "target": {0x8892: "ARRAY_BUFFER", 0x8893: "ELEMENT_ARRAY_BUFFER"},
     "usage": {0x88E0: "STREAM_DRAW", 0x88E4: "STATIC_DRAW", 0x88E8: "DYNAMIC_DRAW"},
+    "parameter": {0x8764: "BUFFER_SIZE", 0x8765: "BUFFER_USAGE"},
     "handle": {0: "null"},
     "error": {
         0: "NO_ERROR",
@@ -40,8 +57,21 @@ def word(data, at):
 
 
 def spelled(kind, value):
-    plain = f"0x{value:04X}" if kind in ("target", "usage", "error") else str(value)
+    plain = f"0x{value:04X}" if kind in ("target", "usage", "parameter", "error") else str(value)
     return WORDS.get(kind, {}).get(value, plain)
+
+
+def taken(body, fields):
+    """The arguments that a body begins with, and the bytes behind them."""
+    arguments, at = [], 0
+    for field in fields:
+        if field == "long":
+            arguments.append(str(struct.unpack_from("<q", body, at)[0]))
+            at += 8
+        else:
+            arguments.append(spelled(field, word(body, at)))
+            at += 4
+    return arguments, body[at:]
 
 
 def framed(data, names):
@@ -53,10 +83,8 @@ def framed(data, names):
         if (operation, size) == (0, 0) or len(body) < size:
             return
         name = names.get(operation, f"operation {operation}")
-        fields = FIELDS.get(name, [])
-        arguments = [spelled(field, word(body, 4 * i)) for i, field in enumerate(fields)]
-        tail = body[4 * len(fields) :]
-        if name in ("bufferData", "BufferBytes"):
+        arguments, tail = taken(body, FIELDS.get(name, []))
+        if name in ("bufferData", "bufferSubData", "BufferBytes"):
             arguments.append(f"{len(tail)} bytes")
         yield name, f"{name}({', '.join(arguments)})", data[at : at + 8 + size]
         at += 8 + size
