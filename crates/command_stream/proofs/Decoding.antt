@@ -209,7 +209,7 @@ bad-place all piece commands s d bad =
     ∙ ap (λ t. stream_start ++ (t ++ bad.bytes)) (append-nil (flat_map command_spelling commands))
 
 -- a refused header, whatever follows it
-refused-more : (bytes more : List ℕ) → IsRefused bytes → IsRefused (bytes ++ more)
+pub refused-more : (bytes more : List ℕ) → IsRefused bytes → IsRefused (bytes ++ more)
 refused-more bytes more r = record {
   number = r.number;
   len = r.len;

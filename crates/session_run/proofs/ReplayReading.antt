@@ -15,6 +15,7 @@ use Rattle.command_stream.specs.declared.command.Command.{Command}
 use Rattle.command_stream.specs.Commands.{command_spelling, stream}
 use Rattle.command_stream.specs.DecoderState.{DecoderState, IsPart, IsRefused, start_taken}
 use Rattle.command_stream.proofs.OneSpelling.{stream-one}
+use Rattle.command_stream.proofs.Decoding.{refused-more}
 use Rattle.gl_model.specs.DriverState.{first_driver}
 use Rattle.gl_model.specs.Replay.{Replayed, replay}
 use Rattle.es2_replay.specs.Kept.{Kept}
@@ -246,18 +247,6 @@ extended bytes more b = record {
   within = b.within;
 }
 
--- a refused header, and more bytes
-refused-before : (bytes more : List ℕ) → IsRefused bytes → IsRefused (bytes ++ more)
-refused-before bytes more r = record {
-  number = r.number;
-  len = r.len;
-  rest = r.rest ++ more;
-  number_fits = r.number_fits;
-  len_fits = r.len_fits;
-  are = ap (λ l. l ++ more) r.are ∙ append_assoc (le32 r.number) (le32 r.len ++ r.rest) more ∙ ap (λ l. le32 r.number ++ l) (append_assoc (le32 r.len) r.rest more);
-  refused = r.refused;
-}
-
 -- what stopped a replay, where the source tells what is left
 pub told_stopped : (left0 left : Option (List ℕ)) (end : ReplayEnd) → ReadUntil end [] left0 left → WhereTold (λ old new. Stops old end × IsLeft end new) left0 left
 told_stopped left0 left (Truncated at) r = told_end (λ old new. Stops old (Truncated at) × IsLeft (Truncated at) new) left0 left r.got r.took r.ended (r.stops, refl)
@@ -286,7 +275,7 @@ told_stopped left0 left (Refused at) r = told (λ old new. Stops old (Refused at
     begins = extended r.got rest r.stops.begins;
     place = r.stops.place;
     room = r.stops.room;
-    refused = refused-before r.stops.begins.rest rest r.stops.refused;
+    refused = refused-more r.stops.begins.rest rest r.stops.refused;
   },
   tt,
 ))
