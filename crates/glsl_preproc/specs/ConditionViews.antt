@@ -6,8 +6,8 @@ use Rattle.glsl_tree.specs.declared.token.Token.{Token}
 use Rattle.glsl_preproc.specs.Macros.{is_text}
 use Rattle.glsl_preproc.specs.Values.{negated, complemented, inverted}
 use Rattle.glsl_preproc.specs.Conditions.{Asked, Other, Of, Broken, Parsed, Read, Wrong, TooDeep, same_value, Judged, Yes, No, Fails, Unknown}
-use Rattle.glsl_preproc.specs.declared.conditions.Asked.{Asked as AskedFound}
-use Rattle.glsl_preproc.specs.declared.conditions.Asked.TheVariants as asked
+use Rattle.glsl_preproc.specs.declared.defined.Asked.{Asked as AskedFound}
+use Rattle.glsl_preproc.specs.declared.defined.Asked.TheVariants as asked
 use Rattle.glsl_preproc.specs.declared.conditions.Parsed.{Parsed as ParsedFound}
 use Rattle.glsl_preproc.specs.declared.conditions.Parsed.TheVariants as parsed
 use Rattle.glsl_preproc.specs.declared.conditions.Sign.{Sign}

@@ -1,6 +1,6 @@
-ghost use Rattle.std.specs.Prelude.{◌≡◌, ◌≤◌, ◌+◌, [], IfOk, IfSome, Some, None, not, ◌&&◌, length, codes};
+ghost use Rattle.std.specs.Prelude.{◌≡◌, ◌≤◌, [], IfOk, IfSome, not, ◌&&◌, length};
 ghost use Rattle.std.specs.Option.{option_map};
-ghost use Rattle.std.specs.List.{list_any, filter};
+ghost use Rattle.std.specs.List.{list_any};
 ghost use Rattle.std.specs.Str.{bytes_eq};
 ghost use Rattle.glsl_tree.specs.Token.{plain, plain_tokens};
 ghost use Rattle.glsl_preproc.specs.Macros.{is_name_token, find_macro};
@@ -9,7 +9,7 @@ ghost use Rattle.glsl_preproc.specs.Views.{plain_macro, texts};
 ghost use Rattle.glsl_preproc.specs.DirectiveViews.{names_of, standing, Changes};
 
 use crate::kinds::Kind;
-use crate::macro_table::{MacroTable, is_reserved, same_macro, same_text};
+use crate::macro_table::{MacroTable, is_reserved, same_macro};
 use crate::macros::Macro;
 use crate::tokens::{closes, copy_of, is_comma, is_int, is_name, is_params, is_text, push_name};
 use glsl_tree::Token;

@@ -1,7 +1,7 @@
 use Rattle.std.proofs.Common.{◌≡◌, [], length}
 use Rattle.glsl_tree.specs.Token.{plain_tokens}
 use Rattle.glsl_preproc.specs.Conditions.{answered_from}
-use Rattle.glsl_preproc.proofs.conditions.answered.Given as goal
+use Rattle.glsl_preproc.proofs.defined.answered.Given as goal
 
 -- the tokens so far, and those that are left
 abbrev pub invariant-loop-rest : goal.invariant-loop-rest

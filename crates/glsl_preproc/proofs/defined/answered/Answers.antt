@@ -4,7 +4,7 @@ use Rattle.glsl_preproc.specs.Macros.{is_defined}
 use Rattle.glsl_preproc.specs.Conditions.{Other, Of, Broken, asked_at, answer_token, answered_from}
 use Rattle.glsl_preproc.proofs.Items.{some_items, none_left}
 use Rattle.glsl_preproc.proofs.Answering.{answered_at, answered_skip, answered_end}
-use Rattle.glsl_preproc.proofs.conditions.answered.Goals as goal
+use Rattle.glsl_preproc.proofs.defined.answered.Goals as goal
 
 pub loop-rest-preserved-in-Other : goal.loop-rest-preserved-in-Other
 loop-rest-preserved-in-Other c =

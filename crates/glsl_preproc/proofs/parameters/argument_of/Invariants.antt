@@ -1,7 +1,7 @@
 use Rattle.std.proofs.Common.{◌≡◌, length}
 use Rattle.glsl_preproc.specs.Replacement.{argument_of}
 use Rattle.glsl_preproc.specs.Views.{texts, lists}
-use Rattle.glsl_preproc.proofs.replacement.argument_of.Given as goal
+use Rattle.glsl_preproc.proofs.parameters.argument_of.Given as goal
 
 abbrev pub invariant-loop-names : goal.invariant-loop-names
 invariant-loop-names l = argument_of (texts l.names) (lists l.rest) l.name ≡ argument_of (texts l.parameters) (lists l.arguments) l.name

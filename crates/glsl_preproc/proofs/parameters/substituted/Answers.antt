@@ -5,7 +5,7 @@ use Rattle.glsl_preproc.specs.Replacement.{substituted, argument_of, argument_or
 use Rattle.glsl_preproc.specs.Views.{texts, lists}
 use Rattle.glsl_preproc.proofs.Items.{some_items, none_left}
 use Rattle.glsl_preproc.proofs.Substitution.{substituted_first, substituted_none}
-use Rattle.glsl_preproc.proofs.replacement.substituted.Goals as goal
+use Rattle.glsl_preproc.proofs.parameters.substituted.Goals as goal
 
 pub loop-rest-preserved : goal.loop-rest-preserved
 loop-rest-preserved c =

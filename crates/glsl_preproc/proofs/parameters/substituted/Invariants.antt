@@ -2,7 +2,7 @@ use Rattle.std.proofs.Common.{◌≡◌, ◌++◌, length}
 use Rattle.glsl_tree.specs.Token.{plain_tokens}
 use Rattle.glsl_preproc.specs.Replacement.{substituted}
 use Rattle.glsl_preproc.specs.Views.{texts, lists}
-use Rattle.glsl_preproc.proofs.replacement.substituted.Given as goal
+use Rattle.glsl_preproc.proofs.parameters.substituted.Given as goal
 
 abbrev pub invariant-loop-rest : goal.invariant-loop-rest
 invariant-loop-rest l = plain_tokens l.out.items ++ substituted (texts l.parameters) (lists l.arguments) l.line (plain_tokens l.rest) ≡ substituted (texts l.parameters) (lists l.arguments) l.line (plain_tokens l.body)
