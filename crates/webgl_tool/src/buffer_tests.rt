@@ -1,9 +1,9 @@
 //! The calls on buffers, run over memory: what each is refused for, answers and sends.
 
-use crate::tool::run_tool;
+use crate::over_memory::{Ran, run_over};
 use std::alloc::{AllocError, Global};
 use std::test::Fail;
-use wire_io::{MemSink, MemSource, Status};
+use wire_io::Status;
 
 /// A session's first words: `WGLR`, version 1.
 const START: [u32; 2] = [0x524C_4757, 1];
@@ -25,14 +25,6 @@ const MADE_REPLIES: [u32; 5] = [0, 1, 1, 0, 0];
 
 const MADE_COMMANDS: [u32; 7] = [1, 4, 3, 11, 8, ARRAY, 3];
 
-/// What a run over memory left.
-#[derive(Drop)]
-struct Ran {
-    status: Status,
-    out: MemSink,
-    stream: MemSink,
-}
-
 /// Adds the bytes of words, the low one first.
 fn add_words(bytes: &mut Vec<u8>, words: &[u32]) -> Result<(), AllocError> {
     for word in words {
@@ -51,21 +43,16 @@ fn bytes_of(alloc: Global, first: &[u32], then: &[u32]) -> Result<Vec<u8>, Alloc
 
 /// Runs the records of these bytes.
 fn run(alloc: Global, records: &[u8], room: usize) -> Result<Ran, AllocError> {
-    let mut words = Vec::new(alloc);
-    words.push(String::from_str(alloc, "run")?)?;
-    words.push(String::from_str(alloc, "out.bin")?)?;
     let mut session = bytes_of(alloc, &START, &[])?;
     session.extend_from_slice(records)?;
     session.extend_from_slice(&[0; 8])?;
-    let mut input = MemSource::new(session, vec![in alloc; 0; 0]?);
-    let mut out = MemSink::new(vec![in alloc; 0; room]?, vec![in alloc; 0; 0]?);
-    let mut stream = MemSink::new(vec![in alloc; 0; room]?, vec![in alloc; 0; 0]?);
-    let status = run_tool(alloc, words.as_slice(), &mut input, &mut out, &mut stream);
-    Ok(Ran {
-        status,
-        out,
-        stream,
-    })
+    run_over(
+        alloc,
+        &["run", "out.bin"],
+        session.as_slice(),
+        room,
+        [&[], &[], &[]],
+    )
 }
 
 /// Whether these records, behind `MADE`, are answered by these replies and send these commands.
@@ -79,11 +66,7 @@ fn is_answered(
     let replies = bytes_of(alloc, &MADE_REPLIES, replies)?;
     let mut sent = bytes_of(alloc, &STREAM_START, &MADE_COMMANDS)?;
     add_words(&mut sent, commands)?;
-    Ok(
-        ran.status == Status::Ok
-            && ran.out.bytes() == replies.as_slice()
-            && ran.stream.bytes() == sent.as_slice(),
-    )
+    Ok(ran.gave(Status::Ok, Some(replies.as_slice()), Some(sent.as_slice())))
 }
 
 #[test]

@@ -1,9 +1,9 @@
 //! Streams that are replayed over memory.
 
-use crate::tool::run_tool;
+use crate::over_memory::{Ran, run_over};
 use std::alloc::{AllocError, Global};
 use std::test::Fail;
-use wire_io::{MemSink, MemSource, Status};
+use wire_io::Status;
 
 /// Makes a buffer, binds it, and gives it two bytes.
 const STREAM: [u8; 74] = [
@@ -20,41 +20,9 @@ const STREAM: [u8; 74] = [
 /// The line of its four commands.
 const LINE: &str = "commands 4 draws 0 clears 0 mipmaps 0\n";
 
-/// What a replay over memory left.
-#[derive(Drop)]
-struct Replayed {
-    status: Status,
-    out: MemSink,
-    stream: MemSink,
-}
-
-impl Replayed {
-    /// Whether the status is this one, `out` holds this text, and `stream` nothing.
-    fn gave(&self, status: Status, text: &str) -> bool {
-        self.status == status
-            && self.out.bytes() == text.as_bytes()
-            && self.stream.bytes().is_empty()
-    }
-}
-
 /// Replays a stream over memory, where these reads of the input and these calls on `out` fail.
-fn replay(
-    alloc: Global,
-    bytes: &[u8],
-    reads: &[u64],
-    calls: &[u64],
-) -> Result<Replayed, AllocError> {
-    let mut words = Vec::new(alloc);
-    words.push(String::from_str(alloc, "replay")?)?;
-    let mut input = MemSource::new(bytes.to_vec(alloc)?, reads.to_vec(alloc)?);
-    let mut out = MemSink::new(vec![in alloc; 0; 64]?, calls.to_vec(alloc)?);
-    let mut stream = MemSink::new(vec![in alloc; 0; 64]?, vec![in alloc; 0]?);
-    let status = run_tool(alloc, words.as_slice(), &mut input, &mut out, &mut stream);
-    Ok(Replayed {
-        status,
-        out,
-        stream,
-    })
+fn replay(alloc: Global, bytes: &[u8], reads: &[u64], calls: &[u64]) -> Result<Ran, AllocError> {
+    run_over(alloc, &["replay"], bytes, 64, [reads, calls, &[0]])
 }
 
 /// The first bytes of the stream, and these behind them.
@@ -67,7 +35,7 @@ fn behind(alloc: Global, taken: usize, bytes: &[u8]) -> Result<Vec<u8>, Fail> {
 #[test]
 fn a_stream_is_told_in_one_line(rt: HostRuntime) -> Result<(), Fail> {
     let told = replay(rt.alloc(), &STREAM, &[], &[])?;
-    assert!(rt; told.gave(Status::Ok, LINE));
+    assert!(rt; told.printed(Status::Ok, LINE));
     Ok(())
 }
 
@@ -81,7 +49,7 @@ fn a_stream_may_end_between_two_commands(rt: HostRuntime) -> Result<(), Fail> {
         (74, LINE),
     ] {
         let told = replay(rt.alloc(), STREAM.get(..len).ok_or("cut")?, &[], &[])?;
-        assert!(rt; told.gave(Status::Ok, line), "{len} bytes");
+        assert!(rt; told.printed(Status::Ok, line), "{len} bytes");
     }
     Ok(())
 }
@@ -92,7 +60,7 @@ fn a_stream_cut_inside_a_command_is_truncated_at_its_length(rt: HostRuntime) -> 
         for len in from..past {
             let told = replay(rt.alloc(), STREAM.get(..len).ok_or("cut")?, &[], &[])?;
             let status = Status::Truncated { at: len as u64 };
-            assert!(rt; told.gave(status, ""), "cut at {len}");
+            assert!(rt; told.printed(status, ""), "cut at {len}");
         }
     }
     Ok(())
@@ -115,7 +83,7 @@ fn a_refused_stream_is_told_where(rt: HostRuntime) -> Result<(), Fail> {
         let stream = behind(alloc, taken, bytes)?;
         let told = replay(alloc, stream.as_slice(), &[], &[])?;
         assert!(rt;
-            told.gave(Status::BadInput { at, kind }, ""),
+            told.printed(Status::BadInput { at, kind }, ""),
             "kind {kind} at {at}"
         );
     }
@@ -138,7 +106,7 @@ fn the_first_command_that_has_a_fault_is_named(rt: HostRuntime) -> Result<(), Fa
             command,
             code: 0x0502,
         };
-        assert!(rt; told.gave(status, ""), "command {command}");
+        assert!(rt; told.printed(status, ""), "command {command}");
     }
     Ok(())
 }
@@ -253,7 +221,7 @@ fn each_refusal_is_told_with_its_code(rt: HostRuntime) -> Result<(), Fail> {
         let stream = behind(alloc, 74, bytes)?;
         let told = replay(alloc, stream.as_slice(), &[], &[])?;
         let status = Status::ReplayFault { command: 5, code };
-        assert!(rt; told.gave(status, ""), "{bytes:?}");
+        assert!(rt; told.printed(status, ""), "{bytes:?}");
     }
     Ok(())
 }
@@ -262,10 +230,10 @@ fn each_refusal_is_told_with_its_code(rt: HostRuntime) -> Result<(), Fail> {
 fn a_failing_read_leaves_nothing_told(rt: HostRuntime) -> Result<(), Fail> {
     for call in 0u64..3 {
         let told = replay(rt.alloc(), &STREAM, &[call], &[])?;
-        assert!(rt; told.gave(Status::ReadFault, ""), "read {call}");
+        assert!(rt; told.printed(Status::ReadFault, ""), "read {call}");
     }
     let told = replay(rt.alloc(), &STREAM, &[3], &[])?;
-    assert!(rt; told.gave(Status::Ok, LINE), "there is no read 3");
+    assert!(rt; told.printed(Status::Ok, LINE), "there is no read 3");
     Ok(())
 }
 
@@ -279,9 +247,12 @@ fn a_failing_write_or_flush_is_told_whatever_the_stream(rt: HostRuntime) -> Resu
     ];
     for (bytes, call, text) in cases {
         let told = replay(rt.alloc(), bytes, &[], &[call])?;
-        assert!(rt; told.gave(Status::WriteFault, text), "call {call} on out");
+        assert!(rt;
+            told.printed(Status::WriteFault, text),
+            "call {call} on out"
+        );
     }
     let told = replay(rt.alloc(), &STREAM, &[], &[2])?;
-    assert!(rt; told.gave(Status::Ok, LINE), "there is no call 2 on out");
+    assert!(rt; told.printed(Status::Ok, LINE), "there is no call 2 on out");
     Ok(())
 }

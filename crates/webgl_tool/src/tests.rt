@@ -1,11 +1,12 @@
 ghost use Rattle.std.specs.Prelude.{◌-◌, ◌^◌, None};
 
 use crate::exit_status;
+use crate::over_memory::{Ran, run_over, words_of};
 use crate::tool::run_tool;
 use std::alloc::{AllocError, Global};
 use std::cell::Cell;
 use std::test::Fail;
-use wire_io::{Failed, MemSink, MemSource, Sink, Source, Status};
+use wire_io::{Failed, MemSource, Sink, Source, Status};
 
 /// Makes a buffer, binds it, gives it two bytes, and asks for the error.
 const SESSION: [u8; 66] = [
@@ -121,31 +122,6 @@ const MIXED_STREAM: [u8; 72] = [
     0x92, 0x88, 0x00, 0x00, 0x00, 0x00, 0x00, 0x00, // ARRAY_BUFFER, none
 ];
 
-/// What a run over memory left.
-#[derive(Drop)]
-struct Ran {
-    status: Status,
-    out: MemSink,
-    stream: MemSink,
-}
-
-impl Ran {
-    /// Whether the status is this one, and the sinks hold these bytes.
-    fn gave(&self, status: Status, replies: Option<&[u8]>, commands: Option<&[u8]>) -> bool {
-        self.status == status
-            && replies == Some(self.out.bytes())
-            && commands == Some(self.stream.bytes())
-    }
-}
-
-fn words_of(alloc: Global, texts: &[&str]) -> Result<Vec<String>, AllocError> {
-    let mut words = Vec::new(alloc);
-    for text in texts {
-        words.push(String::from_str(alloc, text)?)?;
-    }
-    Ok(words)
-}
-
 /// Runs a session over memory, where these reads of the input, calls on `out` and calls on `stream` fail.
 fn run(
     alloc: Global,
@@ -154,16 +130,13 @@ fn run(
     replies: &[u64],
     commands: &[u64],
 ) -> Result<Ran, AllocError> {
-    let words = words_of(alloc, &["run", "out.bin"])?;
-    let mut input = MemSource::new(session.to_vec(alloc)?, reads.to_vec(alloc)?);
-    let mut out = MemSink::new(vec![in alloc; 0; 256]?, replies.to_vec(alloc)?);
-    let mut stream = MemSink::new(vec![in alloc; 0; 256]?, commands.to_vec(alloc)?);
-    let status = run_tool(alloc, words.as_slice(), &mut input, &mut out, &mut stream);
-    Ok(Ran {
-        status,
-        out,
-        stream,
-    })
+    run_over(
+        alloc,
+        &["run", "out.bin"],
+        session,
+        256,
+        [reads, replies, commands],
+    )
 }
 
 #[test]
@@ -258,22 +231,21 @@ fn words_that_are_no_command_touch_nothing(rt: HostRuntime) -> Result<(), Fail> 
         &["scene", "1"],
     ];
     for texts in cases {
-        let alloc = rt.alloc();
-        let words = words_of(alloc, texts)?;
-        let mut input = MemSource::new(SESSION.to_vec(alloc)?, vec![in alloc; 0]?);
-        let mut out = MemSink::new(vec![in alloc; 0; 256]?, vec![in alloc; 0]?);
-        let mut stream = MemSink::new(vec![in alloc; 0; 256]?, vec![in alloc; 0]?);
-        let status = run_tool(alloc, words.as_slice(), &mut input, &mut out, &mut stream);
-        assert_eq!(rt; status, Status::Usage);
+        let mut ran = run_over(rt.alloc(), texts, &SESSION, 256, [&[0], &[0], &[0]])?;
+        assert_eq!(rt; ran.status, Status::Usage);
         let mut piece = [0u8; 1];
         assert_eq!(rt;
-            input.read(&mut piece),
+            ran.input.read(&mut piece),
             Err(Failed),
             "it was the first read"
         );
-        assert_eq!(rt; out.flush(), Err(Failed), "it was the first call on out");
         assert_eq!(rt;
-            stream.flush(),
+            ran.out.flush(),
+            Err(Failed),
+            "it was the first call on out"
+        );
+        assert_eq!(rt;
+            ran.stream.flush(),
             Err(Failed),
             "it was the first call on stream"
         );
