@@ -1,43 +1,19 @@
--- What the map of the buffers says of the shelf that it is seen as.
-use Rattle.std.proofs.Common.{◌≡◌, ℕ, Bool, cond, List, [], ◌∷◌, refl, sym, ap, ◌∙◌, true, false, eq-eqb}
+-- What the list of the slots says of the shelf that it is seen as.
+use Rattle.std.proofs.Common.{◌≡◌, ◌<◌, ◌≤◌, ◌+◌, ℕ, zero, suc, Bool, cond, List, [], ◌∷◌, ◌++◌, length, get_or, set, refl, sym, ap, ◌∙◌, true, false, arith, eq-eqb, get_or-set_same, get_or-set_other}
 use Rattle.std.specs.Prelude.{Option, Some, None, IsSome, ◌==◌}
 use Rattle.std.specs.Option.{option_map}
-use Rattle.std.proofs.lemmas.Bool.{eqb-true}
+use Rattle.std.proofs.lemmas.Bool.{eqb-true, eqb-false, cond-true, cond-false}
+use Rattle.std.proofs.lemmas.List.{get_or_past}
 use Rattle.std.specs.Ordering.{nat_cmp, is_eq}
 use Rattle.std.specs.declared.cmp.Ordering.{Ordering}
 use Rattle.std.specs.declared.cmp.Ordering.TheVariants.{Less, Equal, Greater}
-use Rattle.std.specs.Cmp.{nat_cmp_total, eq_by_cmp_equiv, unsigned_tied}
-use Rattle.std.specs.Map.{lookup}
-use Rattle.std.specs.BTreeMap as tree
-use Rattle.std.specs.BTreeMap.{BTreeMap, is_at}
-use Rattle.std.specs.FinMap.{FinMap, get, insert, remove, find, from_entries, get-from_entries, get-insert, get-remove, same_map, nat_cmp-IsAntisymmetric}
+use Rattle.std.specs.Cmp.{nat_cmp_total, unsigned_tied}
+use Rattle.std.specs.FinMap.{FinMap, empty, get, insert, remove, find, get-empty, get-from_entries, get-insert, get-remove, same_map, nat_cmp-IsAntisymmetric}
 use Rattle.buffer_store.specs.Buffer.{Buffer}
 use Rattle.buffer_store.specs.Stored.{Shelf, changed_at}
+use Rattle.buffer_store.specs.Slots.{slots_from, shelf_of}
 
 module _ {X : Type 0} where
-  -- the first entry of a key, in the words of either
-  pub find-lookup : (q : ℕ) (es : List (ℕ × X)) → find nat_cmp q es ≡ lookup (is_at (nat_cmp q)) es
-  find-lookup q [] = refl
-  find-lookup q (e ∷ es) = ap (cond (is_at (nat_cmp q) e.0) (Some e.1)) (find-lookup q es)
-
-  -- what the shelf has at a handle
-  pub get-shelf : (m : BTreeMap ℕ X) (q : ℕ) → get (from_entries {R = nat_cmp} m.entries) q ≡ tree.get nat_cmp m q
-  get-shelf m q = get-from_entries nat_cmp_total m.entries q ∙ find-lookup q m.entries
-
-  -- an insertion into the map is one into the shelf
-  pub shelf-updated : (m n : BTreeMap ℕ X) (k : ℕ) (v : X) → tree.Updates nat_cmp m n k (Some v)
-      → from_entries {R = nat_cmp} n.entries ≡ insert (from_entries m.entries) k v
-  shelf-updated m n k v u = same_map nat_cmp_total nat_cmp-IsAntisymmetric _ _
-      (λ q. get-shelf n q ∙ u.0 q ∙ ap (λ b. cond b (Some v) (tree.get nat_cmp m q)) ((eq_by_cmp_equiv nat_cmp_total).symm k q)
-      ∙ ap (cond (is_at (nat_cmp q) k) (Some v)) (sym (get-shelf m q)) ∙ sym (get-insert nat_cmp_total (from_entries m.entries) k v q))
-
-  -- a removal from the map is one from the shelf
-  pub shelf-removed : (m n : BTreeMap ℕ X) (k : ℕ) → tree.Updates nat_cmp m n k None
-      → from_entries {R = nat_cmp} n.entries ≡ remove (from_entries m.entries) k
-  shelf-removed m n k u = same_map nat_cmp_total nat_cmp-IsAntisymmetric _ _
-      (λ q. get-shelf n q ∙ u.0 q ∙ ap (λ b. cond b None (tree.get nat_cmp m q)) ((eq_by_cmp_equiv nat_cmp_total).symm k q)
-      ∙ ap (cond (is_at (nat_cmp q) k) None) (sym (get-shelf m q)) ∙ sym (get-remove nat_cmp_total (from_entries m.entries) k q))
-
   same_at : (m : FinMap nat_cmp X) (k : ℕ) (v : X) → get m k ≡ Some v → (q : ℕ) (o : Ordering) → nat_cmp q k ≡ o
       → cond (is_eq o) (Some v) (get m q) ≡ get m q
   same_at m k v e q Less t = refl
@@ -69,8 +45,78 @@ pub get-changed_at : (shelf : Shelf) (h : ℕ) (f : Buffer → Buffer) (o : Opti
 get-changed_at shelf h f None q at = unchanged_at shelf h q at (q == h) refl
 get-changed_at shelf h f (Some b) q at = get-inserted shelf h (f b) q
 
+-- whether two numbers are tied, where they differ
+tied_apart : (q n : ℕ) → (q ≡ n → ⊥) → (b : Bool) → (q == n) ≡ b → is_eq (nat_cmp q n) ≡ false
+tied_apart q n apart true e = absurd (apart (eqb-true q n e))
+tied_apart q n apart false e = unsigned_tied q n ∙ e
+
+-- no slot from n on has a place below n
+find_below : (q n : ℕ) (slots : List (Option Buffer)) → q < n → find nat_cmp q (slots_from n slots) ≡ None
+unfolding slots_from
+find_below q n [] l = refl
+find_below q n (None ∷ slots) l = find_below q (suc n) slots (omega arith)
+find_below q n (Some b ∷ slots) l = cond-false _ _ _ (tied_apart q n (λ e. omega (arith, e)) (q == n) refl) ∙ find_below q (suc n) slots (omega arith)
+
+-- what is found at a place is what the slot has
+find_slot : (q i n : ℕ) (slots : List (Option Buffer)) → q ≡ n + i → find nat_cmp q (slots_from n slots) ≡ get_or slots i None
+unfolding slots_from
+find_slot q i n [] e = refl
+find_slot q zero n (None ∷ slots) e = find_below q (suc n) slots (omega arith)
+find_slot q zero n (Some b ∷ slots) e = cond-true _ _ _ (unsigned_tied q n ∙ eq-eqb q n (omega arith))
+find_slot q (suc i) n (None ∷ slots) e = find_slot q i (suc n) slots (omega arith)
+find_slot q (suc i) n (Some b ∷ slots) e = cond-false _ _ _ (tied_apart q n (λ f. omega (arith, f)) (q == n) refl) ∙ find_slot q i (suc n) slots (omega arith)
+
+-- what the shelf has at a handle
+pub get-shelf : (slots : List (Option Buffer)) (q : ℕ) → get (shelf_of slots) q ≡ get_or slots q None
+unfolding shelf_of
+get-shelf slots q = get-from_entries nat_cmp_total (slots_from 0 slots) q ∙ find_slot q q 0 slots (omega arith)
+
+same_shelf : (s t : Shelf) → ((q : ℕ) → get s q ≡ get t q) → s ≡ t
+same_shelf s t e = same_map nat_cmp_total nat_cmp-IsAntisymmetric s t e
+
+-- no slot, no buffer
+pub shelf-none : shelf_of [] ≡ empty
+shelf-none = same_shelf _ _ (λ q. get-shelf [] q ∙ sym (get-empty nat_cmp q))
+
+-- what a slot has where one was set
+get_or-written : {X : Type 0} (xs : List X) (i q : ℕ) (x d : X) → i < length xs → (b : Bool) → (q == i) ≡ b
+    → get_or (set xs i x) q d ≡ cond b x (get_or xs q d)
+get_or-written xs i q x d l true e = ap (λ k. get_or (set xs i x) k d) (eqb-true q i e) ∙ get_or-set_same xs i x d l
+get_or-written xs i q x d l false e = get_or-set_other xs i q x d (eqb-false q i e)
+
+-- a buffer put into a slot is one inserted into the shelf
+pub shelf-put : (slots : List (Option Buffer)) (h : ℕ) (b : Buffer) → h < length slots → shelf_of (set slots h (Some b)) ≡ insert (shelf_of slots) h b
+shelf-put slots h b l = same_shelf _ _
+    (λ q. get-shelf (set slots h (Some b)) q ∙ get_or-written slots h q (Some b) None l (q == h) refl
+    ∙ ap (cond (q == h) (Some b)) (sym (get-shelf slots q)) ∙ sym (get-inserted (shelf_of slots) h b q))
+
+-- a cleared slot is a buffer removed from the shelf
+pub shelf-cleared : (slots : List (Option Buffer)) (h : ℕ) → h < length slots → shelf_of (set slots h None) ≡ remove (shelf_of slots) h
+shelf-cleared slots h l = same_shelf _ _
+    (λ q. get-shelf (set slots h None) q ∙ get_or-written slots h q None None l (q == h) refl
+    ∙ ap (cond (q == h) None) (sym (get-shelf slots q)) ∙ sym (get-removed (shelf_of slots) h q))
+
+absent_at : (slots : List (Option Buffer)) (h q : ℕ) → length slots ≤ h → (b : Bool) → (q == h) ≡ b → get_or slots q None ≡ cond b None (get_or slots q None)
+absent_at slots h q l true e = get_or_past slots q None (let same : q ≡ h = eqb-true q h e in omega arith)
+absent_at slots h q l false e = refl
+
+-- nothing is removed where there is no slot
+pub shelf-absent : (slots : List (Option Buffer)) (h : ℕ) → length slots ≤ h → remove (shelf_of slots) h ≡ shelf_of slots
+shelf-absent slots h l = same_shelf _ _
+    (λ q. get-removed (shelf_of slots) h q ∙ ap (cond (q == h) None) (get-shelf slots q) ∙ sym (absent_at slots h q l (q == h) refl) ∙ sym (get-shelf slots q))
+
+get_or-more : (slots : List (Option Buffer)) (q : ℕ) → get_or (slots ++ None ∷ []) q None ≡ get_or slots q None
+get_or-more [] zero = refl
+get_or-more [] (suc q) = refl
+get_or-more (x ∷ slots) zero = refl
+get_or-more (x ∷ slots) (suc q) = get_or-more slots q
+
+-- one more empty slot changes nothing
+pub shelf-more : (slots : List (Option Buffer)) → shelf_of (slots ++ None ∷ []) ≡ shelf_of slots
+shelf-more slots = same_shelf _ _ (λ q. get-shelf (slots ++ None ∷ []) q ∙ get_or-more slots q ∙ sym (get-shelf slots q))
+
 -- what stands at a handle
 pub ruleset gets_at = (get-inserted, get-removed, get-changed_at)
 
 -- what the methods of the shelf need
-pub ruleset of_shelf = (get-shelf, shelf-updated, shelf-removed)
+pub ruleset of_shelf = (get-shelf, get-inserted, shelf-none, shelf-put, shelf-cleared, shelf-absent, shelf-more)

@@ -1,24 +1,25 @@
-ghost use Rattle.std.specs.Prelude.{◌≡◌, ◌+◌, ◌≤◌, Some, None, IsNone, IsSome, IfSome, IsSomeAnd, OnOk, OnErr, length};
+ghost use Rattle.std.specs.Prelude.{◌≡◌, ◌+◌, ◌<◌, ◌≤◌, Some, None, IsNone, IsSome, IfSome, IsSomeAnd, OnOk, OnErr, length, vec_len};
 ghost use Rattle.std.specs.Option.{option_copied};
 ghost use Rattle.std.specs.FinMap.{empty, get, insert, remove};
 ghost use Rattle.buffer_store.specs.Buffer.{IsIndexed, with_bytes, with_first};
 ghost use Rattle.buffer_store.specs.Stored.{IsOf, KeepsFirst, changed_at};
 ghost use Rattle.buffer_store.specs.Rules.{Answers, refused_of};
+ghost use Rattle.buffer_store.specs.Slots.{shelf_of};
 
 use crate::held::Held;
 use gl_numbers::{BufferTarget, GlError, Handle, Memory};
 use std::alloc::Global;
-use std::collections::BTreeMap;
 use std::marker::Model;
 
-/// The buffers that are there, by handle.
+/// The buffers that are there, by handle: the one of handle `h` stands at place `h` of a list, and is found in one
+/// step. A page's handles are 1, 2, 3, .. over all its objects, and a deleted buffer leaves its place empty, so the list
+/// has at most one place more than handles were given.
 #[derive(Drop)]
 pub(crate) struct ByHandle {
-    held: BTreeMap<Handle, Held>,
+    held: Vec<Option<Held>>,
 }
 
 impl Model for ByHandle {
-    ghost use Rattle.std.specs.FinMap.{from_entries};
     ghost use Rattle.buffer_store.specs.Stored.{Shelf};
     ghost use Rattle.buffer_store.specs.Codes.{shelf_code};
 
@@ -26,7 +27,9 @@ impl Model for ByHandle {
 
     ghost coded = { shelf_code };
 
-    ghost view = { λ a. from_entries a.held.entries };
+    ghost use Rattle.buffer_store.specs.Slots.{shelf_of};
+
+    ghost view = { λ a. shelf_of a.held.items };
 }
 
 #[tactic(auto, using(crate::proofs::Shelf::of_shelf))]
@@ -36,7 +39,7 @@ impl ByHandle {
         ensures { result ≡ empty }
     {
         ByHandle {
-            held: BTreeMap::new(alloc),
+            held: Vec::new(alloc),
         }
     }
 
@@ -44,7 +47,10 @@ impl ByHandle {
     pub(crate) fn get(&self, h: Handle) -> Option<&Held>
         ensures { option_copied result ≡ get self.now h }
     {
-        self.held.get(&h)
+        match self.held.get(h as usize) {
+            Some(slot) => slot.as_ref(),
+            None => None,
+        }
     }
 
     /// Adds a buffer under a handle that has none.
@@ -54,10 +60,11 @@ impl ByHandle {
         ensures err { OnErr result (self.new ≡ self.old) }
         ensures firsts { KeepsFirst self.old self.new }
     {
-        match self.held.insert(h, held) {
-            Ok(_) => Ok(()),
-            Err(_) => Err(Memory),
-        }
+        let Ok(()) = reach(&mut self.held, h) else {
+            return Err(Memory);
+        };
+        self.held[h as usize] = Some(held);
+        Ok(())
     }
 
     /// Puts another buffer of the same target in the place of the one of this handle.
@@ -75,8 +82,8 @@ impl ByHandle {
         requires { IsSome (get self.old h) }
         ensures { self.new ≡ insert self.old h held }
     {
-        if let Some(place) = self.held.get_mut(&h) {
-            *place = held;
+        if let Some(slot) = self.held.get_mut(h as usize) {
+            *slot = Some(held);
         }
     }
 
@@ -123,9 +130,13 @@ impl ByHandle {
         requires { IsSomeAnd (get self.old h) (λ b. b.first_target ≡ None) }
         ensures { self.new ≡ changed_at self.old h (with_first target) (get self.old h) }
     {
-        if let Some(held) = self.held.get_mut(&h) {
-            held.take_target(alloc, target);
-        }
+        let Some(slot) = self.held.get_mut(h as usize) else {
+            return;
+        };
+        let Some(held) = slot else {
+            return;
+        };
+        held.take_target(alloc, target);
     }
 
     /// Writes these bytes from `at` on into the element buffer of this handle.
@@ -134,15 +145,41 @@ impl ByHandle {
         ensures value { self.new ≡ changed_at self.old h (with_bytes at bytes.now) (get self.old h) }
         ensures firsts { KeepsFirst self.old self.new }
     {
-        if let Some(held) = self.held.get_mut(&h) {
-            held.patch(at, bytes);
-        }
+        let Some(slot) = self.held.get_mut(h as usize) else {
+            return;
+        };
+        let Some(held) = slot else {
+            return;
+        };
+        held.patch(at, bytes);
     }
 
     /// Takes the buffer of this handle away, if it is there.
     pub(crate) fn remove(&mut self, h: Handle)
         ensures { self.new ≡ remove self.old h }
     {
-        let _ = self.held.remove(&h);
+        if let Some(slot) = self.held.get_mut(h as usize) {
+            *slot = None;
+        }
     }
+}
+
+/// Adds empty slots until there is one of this handle. Err where memory is wanting. An empty slot holds no buffer, so
+/// the same buffers are held either way.
+#[tactic(auto, using(crate::proofs::Shelf::of_shelf))]
+fn reach(slots: &mut Vec<Option<Held>>, h: Handle) -> Result<(), Memory>
+    ensures same { shelf_of slots.new.items ≡ shelf_of slots.old.items }
+    ensures reached { OnOk result (h < vec_len slots.new) }
+{
+    let len = h as usize + 1;
+    // All the memory at once, so that no slot is added in vain where it is wanting.
+    let Ok(()) = slots.reserve(len.saturating_sub(slots.len())) else {
+        return Err(Memory);
+    };
+    while slots.len() < len {
+        let Ok(()) = slots.push(None) else {
+            return Err(Memory);
+        };
+    }
+    Ok(())
 }
