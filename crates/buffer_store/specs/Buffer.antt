@@ -3,9 +3,8 @@ use Rattle.std.specs.Prelude.{◌≡◌, ℕ, ◌+◌, ◌≤◌, Bool, true, fa
 use Rattle.gl_numbers.specs.declared.buffer_words.BufferTarget.{BufferTarget}
 use Rattle.gl_numbers.specs.declared.buffer_words.BufferTarget.TheVariants.{Array, ElementArray}
 use Rattle.gl_numbers.specs.declared.buffer_words.Usage.{Usage}
-use Rattle.gl_numbers.specs.declared.buffer_words.Usage.TheVariants.{StreamDraw, StaticDraw, DynamicDraw}
-use Rattle.gl_numbers.specs.declared.buffer_words.TheConstants.{STREAM_DRAW, STATIC_DRAW, DYNAMIC_DRAW}
-use Rattle.buffer_store.specs.declared.content.TheConstants.{BUFFER_BYTES}
+use Rattle.gl_numbers.specs.declared.buffer_words.Usage.TheVariants.{StaticDraw}
+use Rattle.gl_numbers.specs.declared.limits.TheConstants.{BUFFER_BYTES_MAX}
 
 -- the target that it was first bound to, its size and usage, and the bytes that are kept of it
 pub record Buffer : Type 0 where
@@ -56,11 +55,5 @@ KeepsBytes (Some ElementArray) size bytes = length bytes ≡ size
 
 -- what each buffer keeps true
 pub record IsSound (b : Buffer) : Type 0 where
-  pub within : b.size ≤ BUFFER_BYTES
+  pub within : b.size ≤ BUFFER_BYTES_MAX
   pub kept_bytes : KeepsBytes b.first_target b.size b.bytes
-
--- the word of a usage
-abbrev pub word_of : Usage → ℕ
-word_of StreamDraw = STREAM_DRAW
-word_of StaticDraw = STATIC_DRAW
-word_of DynamicDraw = DYNAMIC_DRAW

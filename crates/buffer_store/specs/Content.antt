@@ -4,7 +4,7 @@ use Rattle.gl_numbers.specs.declared.buffer_words.BufferTarget.{BufferTarget}
 use Rattle.gl_numbers.specs.declared.buffer_words.Usage.{Usage}
 use Rattle.buffer_store.specs.declared.content.Content.{Content}
 use Rattle.buffer_store.specs.declared.content.Content.TheVariants.{Size, Bytes}
-use Rattle.buffer_store.specs.declared.content.TheConstants.{BUFFER_BYTES}
+use Rattle.gl_numbers.specs.declared.limits.TheConstants.{BUFFER_BYTES_MAX}
 use Rattle.buffer_store.specs.Buffer.{Buffer, kept}
 
 -- how many bytes there are
@@ -20,7 +20,7 @@ bytes_of (Bytes bytes) = bytes.now
 -- bytes that are given are no more than a buffer holds
 abbrev pub HasShortBytes : Content → Type 0
 HasShortBytes (Size n) = Unit {0}
-HasShortBytes (Bytes bytes) = length bytes.now ≤ BUFFER_BYTES
+HasShortBytes (Bytes bytes) = length bytes.now ≤ BUFFER_BYTES_MAX
 
 -- a buffer of this target that bufferData gave this content and usage
 abbrev pub buffer_of : BufferTarget → Content → Usage → Buffer

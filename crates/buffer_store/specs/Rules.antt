@@ -8,7 +8,7 @@ use Rattle.gl_numbers.specs.declared.buffer_words.Usage.{Usage}
 use Rattle.gl_numbers.specs.declared.errors.GlError.{GlError}
 use Rattle.gl_numbers.specs.declared.errors.GlError.TheVariants.{Value, Operation, Memory}
 use Rattle.buffer_store.specs.declared.content.Content.{Content}
-use Rattle.buffer_store.specs.declared.content.TheConstants.{BUFFER_BYTES}
+use Rattle.gl_numbers.specs.declared.limits.TheConstants.{BUFFER_BYTES_MAX}
 use Rattle.buffer_store.specs.Content.{size_of, buffer_of}
 use Rattle.buffer_store.specs.Buffer.{Buffer, is_of_other, with_first, with_bytes}
 use Rattle.buffer_store.specs.Stored.{Stored, binding, with_binding, changed, found, bound_buffer, without}
@@ -44,7 +44,7 @@ refused_unbound (Some b) = None
 
 -- bufferData: the size is too large; no buffer is bound
 abbrev pub data_refusal : Stored → BufferTarget → Content → Option GlError
-data_refusal s t content = if nat_lt BUFFER_BYTES (size_of content) then Some Value else refused_unbound (bound_buffer s t)
+data_refusal s t content = if nat_lt BUFFER_BYTES_MAX (size_of content) then Some Value else refused_unbound (bound_buffer s t)
 
 -- bufferData: the bound buffer has this content and usage
 abbrev pub filled : Stored → BufferTarget → Content → Usage → Stored

@@ -3,7 +3,8 @@ ghost use Rattle.std.specs.Option.{ForSome};
 ghost use Rattle.std.specs.FinMap.{get, insert};
 ghost use Rattle.gl_numbers.specs.declared.buffer_words.BufferTarget.TheVariants.{ElementArray};
 ghost use Rattle.step_count.specs.Content.{content as lent};
-ghost use Rattle.buffer_store.specs.Buffer.{IsSound, new_buffer, word_of};
+ghost use Rattle.gl_numbers.specs.BufferWords.{usage_word};
+ghost use Rattle.buffer_store.specs.Buffer.{IsSound, new_buffer};
 ghost use Rattle.buffer_store.specs.Content.{HasShortBytes};
 ghost use Rattle.buffer_store.specs.Stored.{IsBoundFirst, IsOf, binding, nothing_stored, without};
 ghost use Rattle.buffer_store.specs.Rules.{Answers, AnswersOrWants, bind_refusal, bound_to, data_refusal, filled, patched, sub_data_refusal, without_buffer};
@@ -163,7 +164,7 @@ impl Buffers {
     /// The GL word of the usage of a buffer that is there.
     pub fn usage(&self, h: Handle) -> u32
         requires { IsSome (get self.now.buffers h) }
-        ensures { IfSome (get self.now.buffers h) (λ b. result ≡ word_of b.usage) }
+        ensures { IfSome (get self.now.buffers h) (λ b. result ≡ usage_word b.usage) }
     {
         match self.buffers.get(h) {
             Some(held) => held.usage(),

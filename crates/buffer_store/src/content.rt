@@ -1,11 +1,8 @@
 ghost use Rattle.std.specs.Prelude.{◌≡◌, ◌≤◌, IfOk, nat_lt};
 ghost use Rattle.buffer_store.specs.Content.{HasShortBytes, bytes_of, size_of};
 
-use gl_numbers::Memory;
+use gl_numbers::{BUFFER_BYTES_MAX, Memory};
 use std::alloc::Global;
-
-/// The most bytes that a buffer has: 64 MiB (this project's own).
-pub const BUFFER_BYTES: u32 = 67_108_864;
 
 /// What bufferData fills a buffer with.
 #[derive(Clone, Copy, Debug)]
@@ -20,17 +17,17 @@ impl Content<'_> {
     /// Whether there are more bytes than a buffer holds.
     pub(crate) fn is_long(self) -> bool
         requires { HasShortBytes self }
-        ensures { result ≡ nat_lt BUFFER_BYTES (size_of self.entry) }
+        ensures { result ≡ nat_lt BUFFER_BYTES_MAX (size_of self.entry) }
     {
         match self {
-            Content::Size(size) => size > BUFFER_BYTES,
+            Content::Size(size) => size > BUFFER_BYTES_MAX,
             Content::Bytes(_) => false,
         }
     }
 
     /// How many bytes there are, at most 67,108,864.
     pub(crate) fn size(self) -> u32
-        requires { size_of self ≤ BUFFER_BYTES }
+        requires { size_of self ≤ BUFFER_BYTES_MAX }
         ensures { result ≡ size_of self.entry }
     {
         match self {

@@ -1,11 +1,12 @@
 ghost use Rattle.std.specs.Prelude.{◌≡◌, ◌+◌, ◌≤◌, length, IfOk, OnErr};
-ghost use Rattle.buffer_store.specs.Buffer.{IsIndexed, IsSound, new_buffer, put_bytes, with_bytes, with_first, word_of};
+ghost use Rattle.buffer_store.specs.Buffer.{IsIndexed, IsSound, new_buffer, put_bytes, with_bytes, with_first};
+ghost use Rattle.gl_numbers.specs.BufferWords.{usage_word};
 ghost use Rattle.buffer_store.specs.Content.{size_of, buffer_of};
 ghost use Rattle.step_count.specs.Content.{content};
 ghost use Rattle.gl_numbers.specs.declared.buffer_words.BufferTarget.TheVariants.{ElementArray};
 
-use crate::{BUFFER_BYTES, Content};
-use gl_numbers::{BufferTarget, DYNAMIC_DRAW, Memory, STATIC_DRAW, STREAM_DRAW, Usage};
+use crate::Content;
+use gl_numbers::{BUFFER_BYTES_MAX, BufferTarget, Memory, Usage};
 use std::alloc::Global;
 use std::marker::Model;
 use step_count::Bytes;
@@ -59,7 +60,7 @@ impl Held {
         content: Content<'_>,
         usage: Usage,
     ) -> Result<Held, Memory>
-        requires { size_of content ≤ BUFFER_BYTES }
+        requires { size_of content ≤ BUFFER_BYTES_MAX }
         ensures ok { IfOk result (λ b. b ≡ buffer_of target content.entry usage) }
         ensures want { OnErr result (target ≡ ElementArray) }
     {
@@ -101,13 +102,9 @@ impl Held {
 
     /// The GL word of its usage.
     pub(crate) fn usage(&self) -> u32
-        ensures { result ≡ word_of self.now.usage }
+        ensures { result ≡ usage_word self.now.usage }
     {
-        match self.usage {
-            Usage::StreamDraw => STREAM_DRAW,
-            Usage::StaticDraw => STATIC_DRAW,
-            Usage::DynamicDraw => DYNAMIC_DRAW,
-        }
+        self.usage.word()
     }
 
     /// The bytes of an element buffer.

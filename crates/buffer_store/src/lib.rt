@@ -12,7 +12,7 @@ mod content;
 mod held;
 
 pub use buffers::Buffers;
-pub use content::{BUFFER_BYTES, Content};
+pub use content::Content;
 
 #[cfg(test)]
 mod tests;

@@ -1,14 +1,9 @@
 -- How long spellings are.
-use Rattle.std.proofs.Common.{◌≡◌, ℕ, ℤ, ◌+◌, length, length-append, arith, refl}
+use Rattle.std.proofs.Common.{◌≡◌, ℕ, ◌+◌, length, length-append, arith, refl}
 use Rattle.gl_numbers.specs.Bytes.{le32}
-use Rattle.gl_numbers.proofs.Bytes.{length-le32}
+use Rattle.gl_numbers.proofs.Bytes.{length-le32, length-le64}
 use Rattle.call_records.specs.declared.calls.Call.{Call}
-use Rattle.call_records.specs.Longs.{le64}
 use Rattle.call_records.specs.Records.{closing_record, spelling, body_of}
-
-pub length-le64 : (z : ℤ) → length (le64 z) ≡ 8
-unfolding le64
-length-le64 z = refl
 
 pub length-closing_record : length closing_record ≡ 8
 unfolding closing_record le32

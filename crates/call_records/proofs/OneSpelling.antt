@@ -9,16 +9,14 @@ use Rattle.std.proofs.lemmas.List.{append_cancel_left}
 use Rattle.std.proofs.lemmas.List.Elements.{All-head, All-tail}
 use Rattle.std.specs.Int.{from_le_bytes, to_le_bytes, cast_signed, cast_unsigned, w32, w64}
 use Rattle.std.specs.List.{flat_map}
-use Rattle.gl_numbers.specs.Bytes.{le32}
-use Rattle.gl_numbers.proofs.Bytes.{length-le32, Same, le32-one}
+use Rattle.gl_numbers.specs.Bytes.{le32, le64, IsLong}
+use Rattle.gl_numbers.proofs.Bytes.{length-le32, length-le64, Same, le32-one}
 use Rattle.call_records.specs.declared.operations.TheConstants.{CLOSE, BODY_MAX}
 use Rattle.call_records.specs.declared.operations.Operation.{Operation}
 use Rattle.call_records.specs.declared.operations.Operation.TheVariants as Op
 use Rattle.call_records.specs.declared.calls.New.TheVariants.{Buffer}
 use Rattle.call_records.specs.declared.calls.Fill.TheVariants.{Size, Bytes}
 use Rattle.gl_numbers.specs.declared.kinds.Kind.TheVariants as Kinds
-use Rattle.call_records.specs.Longs.{le64, IsLong}
-use Rattle.call_records.proofs.Lengths.{length-le64}
 use Rattle.call_records.specs.declared.calls.Call.{Call}
 use Rattle.call_records.specs.declared.calls.Call.TheVariants.{Create, Delete, IsKind, BindBuffer, BufferData, BufferSubData, GetBufferParameter, GetError}
 use Rattle.call_records.specs.Operations.{number_of, operation_numbered, is_known, has_shape}

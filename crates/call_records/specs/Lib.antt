@@ -1,4 +1,3 @@
-pub mod Longs
 pub mod Operations
 pub mod Records
 pub mod Replies

@@ -1,7 +1,7 @@
 -- Calls as records: how each call is spelled, and how a session of them is (this project's own format).
 use Rattle.std.specs.Prelude.{◌≡◌, ℕ, ◌<◌, ◌≤◌, ◌^◌, List, [], ◌++◌, length, codes}
 use Rattle.std.specs.List.{flat_map}
-use Rattle.gl_numbers.specs.Bytes.{le32}
+use Rattle.gl_numbers.specs.Bytes.{le32, le64, IsLong}
 use Rattle.call_records.specs.declared.operations.TheConstants.{CLOSE, BODY_MAX}
 use Rattle.call_records.specs.declared.reading.TheConstants.{SESSION_VERSION}
 use Rattle.call_records.specs.declared.operations.Operation.{Operation}
@@ -10,7 +10,6 @@ use Rattle.call_records.specs.declared.calls.New.TheVariants.{Buffer}
 use Rattle.call_records.specs.declared.calls.Fill.TheVariants.{Size, Bytes}
 use Rattle.call_records.specs.declared.calls.Call.{Call}
 use Rattle.call_records.specs.declared.calls.Call.TheVariants.{Create, Delete, IsKind, BindBuffer, BufferData, BufferSubData, GetBufferParameter, GetError}
-use Rattle.call_records.specs.Longs.{le64, IsLong}
 use Rattle.call_records.specs.Operations.{number_of}
 use Rattle.gl_numbers.specs.declared.kinds.Kind.TheVariants as Kinds
 

@@ -4,7 +4,6 @@
 #![tactic(auto)]
 
 mod calls;
-mod longs;
 mod operations;
 mod reading;
 mod record_buf;

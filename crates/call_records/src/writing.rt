@@ -1,36 +1,21 @@
 ghost use Rattle.std.specs.Prelude.{◌≡◌, ◌++◌, length};
-ghost use Rattle.gl_numbers.specs.Bytes.{le32};
+ghost use Rattle.gl_numbers.specs.Bytes.{le32, le64};
 ghost use Rattle.wire_io.specs.Faults.{HasCause};
 ghost use Rattle.wire_io.specs.Sinks.{Sends};
 ghost use Rattle.call_records.specs.Records.{Fits, spelling};
 ghost use Rattle.call_records.specs.declared.calls.Call.TheVariants.{BufferData, BufferSubData};
 ghost use Rattle.call_records.specs.declared.calls.Fill.TheVariants.{Size, Bytes};
-ghost use Rattle.call_records.specs.Longs.{le64};
 
 use crate::calls::{Call, Fill, New};
 use crate::operations::{
     BIND_BUFFER, BUFFER_DATA, BUFFER_SIZE, BUFFER_SUB_DATA, CREATE_BUFFER, DELETE_BUFFER,
     GET_BUFFER_PARAMETER, GET_ERROR, IS_BUFFER,
 };
-use gl_numbers::{three_words, two_words};
+use gl_numbers::{four_words, three_words, two_words};
 use wire_io::{Failed, Sink, write_all};
 
-/// Four words' bytes.
-#[tactic(auto, unfolding(gl_numbers::specs::Bytes::le32))]
-fn four_words(a: u32, b: u32, c: u32, d: u32) -> [u8; 16]
-    ensures { result ≡ le32 a ++ (le32 b ++ (le32 c ++ le32 d)) }
-{
-    let [a0, a1, a2, a3] = a.to_le_bytes();
-    let [b0, b1, b2, b3] = b.to_le_bytes();
-    let [c0, c1, c2, c3] = c.to_le_bytes();
-    let [d0, d1, d2, d3] = d.to_le_bytes();
-    [
-        a0, a1, a2, a3, b0, b1, b2, b3, c0, c1, c2, c3, d0, d1, d2, d3,
-    ]
-}
-
 /// Three words' bytes, and a number's of 64 bits.
-#[tactic(auto, unfolding(gl_numbers::specs::Bytes::le32, crate::specs::Longs::le64))]
+#[tactic(auto, unfolding(gl_numbers::specs::Bytes::le32, gl_numbers::specs::Bytes::le64))]
 fn three_words_and_long(a: u32, b: u32, c: u32, d: i64) -> [u8; 20]
     ensures { result ≡ le32 a ++ (le32 b ++ (le32 c ++ le64 d)) }
 {
@@ -44,7 +29,7 @@ fn three_words_and_long(a: u32, b: u32, c: u32, d: i64) -> [u8; 20]
 }
 
 /// The whole record of a bufferData with a size.
-#[tactic(auto, unfolding(gl_numbers::specs::Bytes::le32, crate::specs::Longs::le64))]
+#[tactic(auto, unfolding(gl_numbers::specs::Bytes::le32, gl_numbers::specs::Bytes::le64))]
 fn buffer_size(target: u32, usage: u32, size: i64) -> [u8; 24]
     ensures { result ≡ spelling (BufferData target usage (Size size)) }
 {
@@ -69,7 +54,7 @@ fn buffer_data(target: u32, usage: u32, bytes: &[u8]) -> [u8; 16]
 }
 
 /// The record of a bufferSubData up to its bytes.
-#[tactic(auto, unfolding(gl_numbers::specs::Bytes::le32, crate::specs::Longs::le64))]
+#[tactic(auto, unfolding(gl_numbers::specs::Bytes::le32, gl_numbers::specs::Bytes::le64))]
 fn buffer_sub_data(target: u32, offset: i64, bytes: &[u8]) -> [u8; 20]
     requires { Fits (BufferSubData target offset bytes) }
     ensures { result ++ bytes.now ≡ spelling (BufferSubData target offset bytes.entry) }

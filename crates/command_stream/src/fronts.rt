@@ -4,7 +4,7 @@ ghost use Rattle.command_stream.specs.declared.command.Command.TheVariants.{Make
 ghost use Rattle.command_stream.specs.Commands.{Allowed, command_spelling, stream_start};
 
 use crate::operation::{Operation, STREAM_VERSION};
-use gl_numbers::three_words;
+use gl_numbers::{four_words, three_words};
 
 /// The stream's header.
 #[tactic(auto, unfolding(gl_numbers::specs::Bytes::le32))]
@@ -13,20 +13,6 @@ pub fn start() -> [u8; 8]
 {
     let [v0, v1, v2, v3] = STREAM_VERSION.to_le_bytes();
     [b'E', b'S', b'C', b'S', v0, v1, v2, v3]
-}
-
-/// Four words' bytes.
-#[tactic(auto, unfolding(gl_numbers::specs::Bytes::le32))]
-fn four_words(a: u32, b: u32, c: u32, d: u32) -> [u8; 16]
-    ensures { result ≡ le32 a ++ (le32 b ++ (le32 c ++ le32 d)) }
-{
-    let [a0, a1, a2, a3] = a.to_le_bytes();
-    let [b0, b1, b2, b3] = b.to_le_bytes();
-    let [c0, c1, c2, c3] = c.to_le_bytes();
-    let [d0, d1, d2, d3] = d.to_le_bytes();
-    [
-        a0, a1, a2, a3, b0, b1, b2, b3, c0, c1, c2, c3, d0, d1, d2, d3,
-    ]
 }
 
 /// Five words' bytes.

@@ -10,8 +10,7 @@ use crate::bound_names::BoundNames;
 use crate::buffer_object::BufferObject;
 use crate::faults::{Fault, Shot};
 use command_stream::Command;
-use gl_model::MOST_BYTES;
-use gl_numbers::{BufferTarget, GlError, Memory, Usage};
+use gl_numbers::{BUFFER_BYTES_MAX, BufferTarget, GlError, Memory, Usage};
 use std::alloc::Global;
 use std::collections::BTreeMap;
 use std::marker::Model;
@@ -131,7 +130,7 @@ impl Machine {
         if BufferTarget::from_u32(target).is_none() || Usage::from_u32(usage).is_none() {
             return Some(GlError::Enum);
         }
-        if size > MOST_BYTES {
+        if size > BUFFER_BYTES_MAX {
             return Some(GlError::Value);
         }
         if self.bound_to(target).is_none() {

@@ -5,8 +5,7 @@ use Rattle.gl_numbers.specs.BufferWords.{buffer_target_of, usage_of}
 use Rattle.gl_numbers.specs.declared.buffer_words.BufferTarget.{BufferTarget}
 use Rattle.gl_numbers.specs.declared.buffer_words.BufferTarget.TheVariants.{Array, ElementArray}
 use Rattle.gl_numbers.specs.declared.buffer_words.Usage.{Usage}
-use Rattle.gl_numbers.specs.declared.buffer_words.Usage.TheVariants.{StreamDraw, StaticDraw, DynamicDraw}
-use Rattle.gl_numbers.specs.declared.buffer_words.TheConstants.{STREAM_DRAW, STATIC_DRAW, DYNAMIC_DRAW}
+use Rattle.gl_numbers.specs.declared.buffer_words.Usage.TheVariants.{StaticDraw}
 
 -- a buffer: the target that it was first bound to, its usage and all its bytes
 pub record Buffer : Type 0 where
@@ -34,12 +33,6 @@ is_buffer_target word = is_some (buffer_target_of word)
 -- the word is a usage
 abbrev pub is_usage : ℕ → Bool
 is_usage word = is_some (usage_of word)
-
--- the word of a usage
-abbrev pub usage_word : Usage → ℕ
-usage_word StreamDraw = STREAM_DRAW
-usage_word StaticDraw = STATIC_DRAW
-usage_word DynamicDraw = DYNAMIC_DRAW
 
 -- what is bound to a target
 abbrev pub binding : Bindings → BufferTarget → Option ℕ

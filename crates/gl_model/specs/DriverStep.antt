@@ -8,7 +8,7 @@ use Rattle.gl_numbers.specs.declared.errors.GlError.{GlError}
 use Rattle.gl_numbers.specs.declared.errors.GlError.TheVariants.{Enum, Value, Operation}
 use Rattle.command_stream.specs.declared.command.Command.{Command}
 use Rattle.command_stream.specs.declared.command.Command.TheVariants.{MakeBuffer, DropBuffer, BindBuffer, BufferSize, BufferBytes}
-use Rattle.gl_model.specs.declared.limits.TheConstants.{MOST_BYTES}
+use Rattle.gl_numbers.specs.declared.limits.TheConstants.{BUFFER_BYTES_MAX}
 use Rattle.gl_model.specs.Refusals.{Rule, when, first_refusal}
 use Rattle.gl_model.specs.Buffers.{Buffer, new_buffer, is_buffer_target, is_usage, bound_to, bind, unbind, non_zero, is_for_other_target, take_target, take_data, patch}
 use Rattle.gl_model.specs.DriverState.{DriverState, with_name, bound_buffer}
@@ -43,7 +43,7 @@ rules g (BindBuffer target name) =
 rules g (BufferSize target usage size) =
     when (not (is_buffer_target target)) Enum
     ∷ when (not (is_usage usage)) Enum
-    ∷ when (nat_lt MOST_BYTES size) Value
+    ∷ when (nat_lt BUFFER_BYTES_MAX size) Value
     ∷ when (not (is_some (bound_to g.bound target))) Operation
     ∷ []
 rules g (BufferBytes target offset part) =

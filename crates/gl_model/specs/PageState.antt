@@ -4,7 +4,7 @@ use Rattle.std.specs.Option.{option_and_then, option_map_or}
 use Rattle.gl_numbers.specs.declared.buffer_words.BufferTarget.{BufferTarget}
 use Rattle.gl_numbers.specs.declared.kinds.Kind as Kinds
 use Rattle.gl_numbers.specs.declared.kinds.Kind.TheVariants as kind
-use Rattle.gl_model.specs.declared.limits.TheConstants.{MOST_BYTES, MOST_HANDLES}
+use Rattle.gl_numbers.specs.declared.limits.TheConstants.{BUFFER_BYTES_MAX, HANDLES_MAX}
 use Rattle.gl_model.specs.Errors.{ErrorSet, no_errors}
 use Rattle.gl_model.specs.Buffers.{Buffer, Bindings, no_bindings, binding, bound_to}
 
@@ -96,7 +96,7 @@ with_buffer change objects handle = with_object (on_buffer change) objects handl
 
 -- a buffer has no more bytes than a buffer may, and none before it was first bound
 pub record IsSoundBuffer (b : Buffer) : Type 0 where
-  pub size : length b.bytes ≤ MOST_BYTES
+  pub size : length b.bytes ≤ BUFFER_BYTES_MAX
   pub unbound : b.first_target ≡ None → b.bytes ≡ []
 
 -- what is bound to a target is a buffer that is there and was first bound to it (WebGL 1.0 section 6.1)
@@ -106,6 +106,6 @@ IsBoundTo objects target bound =
 
 -- what every page's state keeps true: no more handles than are given, sound buffers, and bound ones of their targets
 pub record IsSound (w : PageState) : Type 0 where
-  pub handles : length w.objects ≤ MOST_HANDLES
+  pub handles : length w.objects ≤ HANDLES_MAX
   pub buffers : (handle : ℕ) → IfSome (buffer_at w.objects handle) IsSoundBuffer
   pub bound : (target : BufferTarget) → IsBoundTo w.objects target (binding w.bound target)

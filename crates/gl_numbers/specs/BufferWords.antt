@@ -18,3 +18,9 @@ usage_of n =
     if n == STREAM_DRAW then Some StreamDraw
     else (if n == STATIC_DRAW then Some StaticDraw
     else (if n == DYNAMIC_DRAW then Some DynamicDraw else None))
+
+-- the word of a usage
+abbrev pub usage_word : Usage → ℕ
+usage_word StreamDraw = STREAM_DRAW
+usage_word StaticDraw = STATIC_DRAW
+usage_word DynamicDraw = DYNAMIC_DRAW

@@ -1,5 +1,5 @@
 ghost use Rattle.std.specs.Prelude.{◌≡◌};
-ghost use Rattle.gl_numbers.specs.BufferWords.{buffer_target_of, usage_of};
+ghost use Rattle.gl_numbers.specs.BufferWords.{buffer_target_of, usage_of, usage_word};
 
 /// The target of vertex data.
 pub const ARRAY_BUFFER: u32 = 0x8892;
@@ -12,6 +12,11 @@ pub const STREAM_DRAW: u32 = 0x88E0;
 pub const STATIC_DRAW: u32 = 0x88E4;
 /// Written often, drawn many times.
 pub const DYNAMIC_DRAW: u32 = 0x88E8;
+
+/// The parameter of a buffer that is its size in bytes (OpenGL ES 2.0 section 6.1.3).
+pub const BUFFER_SIZE: u32 = 0x8764;
+/// The parameter of a buffer that is its usage (OpenGL ES 2.0 section 6.1.3).
+pub const BUFFER_USAGE: u32 = 0x8765;
 
 /// A target that a buffer is bound to (OpenGL ES 2.0 section 2.9, WebGL 1.0 section 5.14.5).
 #[derive(Clone, Copy, Debug, PartialEq, Eq)]
@@ -56,6 +61,17 @@ impl Usage {
             STATIC_DRAW => Some(Usage::StaticDraw),
             DYNAMIC_DRAW => Some(Usage::DynamicDraw),
             _ => None,
+        }
+    }
+
+    /// The GL word of this usage.
+    pub fn word(self) -> u32
+        ensures { result ≡ usage_word self }
+    {
+        match self {
+            Usage::StreamDraw => STREAM_DRAW,
+            Usage::StaticDraw => STATIC_DRAW,
+            Usage::DynamicDraw => DYNAMIC_DRAW,
         }
     }
 }

@@ -1,5 +1,6 @@
 use crate::{
-    BufferTarget, GlError, Name, Usage, Words, three_words, two_words, u32_at, word_bytes,
+    BufferTarget, GlError, Name, Usage, Words, four_words, i64_at, three_words, two_words, u32_at,
+    word_bytes,
 };
 use std::test::Fail;
 
@@ -45,6 +46,9 @@ fn usages_are_three_words(rt: HostRuntime) {
         (0, None),
     ] {
         assert_eq!(rt; Usage::from_u32(word), usage, "at {word}");
+        if let Some(usage) = usage {
+            assert_eq!(rt; usage.word(), word);
+        }
     }
 }
 
@@ -76,10 +80,19 @@ fn words_hold_up_to_16(rt: HostRuntime) -> Result<(), Fail> {
 #[test]
 fn words_lie_with_the_low_byte_first(rt: HostRuntime) {
     assert_eq!(rt; u32_at(&[0x92, 0x88, 0, 0x7F, 9]), 0x7F00_8892);
+    assert_eq!(rt;
+        i64_at(&[0xFE, 0xFF, 0xFF, 0xFF, 0xFF, 0xFF, 0xFF, 0xFF, 1]),
+        -2
+    );
+    assert_eq!(rt; i64_at(&[0, 0, 0, 0, 1, 0, 0, 0]), 0x1_0000_0000);
     assert_eq!(rt; word_bytes(0x0102_0304), [4, 3, 2, 1]);
     assert_eq!(rt; two_words(0x0102_0304, 5), [4, 3, 2, 1, 5, 0, 0, 0]);
     assert_eq!(rt;
         three_words(0x8892, 0x88E4, 0xFFFF_FFFE),
         [0x92, 0x88, 0, 0, 0xE4, 0x88, 0, 0, 0xFE, 0xFF, 0xFF, 0xFF]
+    );
+    assert_eq!(rt;
+        four_words(1, 0x0200, 3, 0x0400_0000),
+        [1, 0, 0, 0, 0, 2, 0, 0, 3, 0, 0, 0, 0, 0, 0, 4]
     );
 }

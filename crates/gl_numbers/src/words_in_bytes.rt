@@ -1,5 +1,5 @@
 ghost use Rattle.std.specs.Prelude.{◌≡◌, ◌≤◌, ◌++◌, length, drop};
-ghost use Rattle.gl_numbers.specs.Bytes.{le32};
+ghost use Rattle.gl_numbers.specs.Bytes.{le32, le64, IsLong};
 
 /// The word whose four bytes, the low one first, begin these bytes.
 #[tactic(auto, unfolding(crate::specs::Bytes::le32))]
@@ -8,6 +8,18 @@ pub fn u32_at(bytes: &[u8]) -> u32
     ensures { bytes.now ≡ le32 result ++ drop 4 bytes.now }
 {
     u32::from_le_bytes([bytes[0], bytes[1], bytes[2], bytes[3]])
+}
+
+/// The number of 64 bits with a sign whose eight bytes, the low one first, begin these bytes.
+#[tactic(auto, unfolding(crate::specs::Bytes::le64))]
+pub fn i64_at(bytes: &[u8]) -> i64
+    requires { 8 ≤ length bytes.now }
+    ensures bytes { bytes.now ≡ le64 result ++ drop 8 bytes.now }
+    ensures range { IsLong result }
+{
+    i64::from_le_bytes([
+        bytes[0], bytes[1], bytes[2], bytes[3], bytes[4], bytes[5], bytes[6], bytes[7],
+    ])
 }
 
 /// A word's four bytes, the low one first.
@@ -37,4 +49,18 @@ pub fn three_words(a: u32, b: u32, c: u32) -> [u8; 12]
     let [b0, b1, b2, b3] = b.to_le_bytes();
     let [c0, c1, c2, c3] = c.to_le_bytes();
     [a0, a1, a2, a3, b0, b1, b2, b3, c0, c1, c2, c3]
+}
+
+/// Four words' bytes.
+#[tactic(auto, unfolding(crate::specs::Bytes::le32))]
+pub fn four_words(a: u32, b: u32, c: u32, d: u32) -> [u8; 16]
+    ensures { result ≡ le32 a ++ (le32 b ++ (le32 c ++ le32 d)) }
+{
+    let [a0, a1, a2, a3] = a.to_le_bytes();
+    let [b0, b1, b2, b3] = b.to_le_bytes();
+    let [c0, c1, c2, c3] = c.to_le_bytes();
+    let [d0, d1, d2, d3] = d.to_le_bytes();
+    [
+        a0, a1, a2, a3, b0, b1, b2, b3, c0, c1, c2, c3, d0, d1, d2, d3,
+    ]
 }

@@ -1,9 +1,9 @@
 -- What the names keep true of their memory.
 use Rattle.std.specs.Prelude.{◌≡◌, ℕ, ◌<◌, ◌≤◌, Option, Some}
 use Rattle.gl_numbers.specs.declared.kinds.Kind.{Kind}
-use Rattle.object_names.specs.declared.names.TheConstants.{HANDLES}
+use Rattle.gl_numbers.specs.declared.limits.TheConstants.{HANDLES_MAX}
 
 -- of so many objects that were given, in memory of this length and capacity
 pub record HasRoom (given len capacity : ℕ) (room : Option Kind) : Type 0 where
-  pub within : given ≤ HANDLES
-  pub one_more : (kind : Kind) → room ≡ Some kind → (len < capacity) × (given < HANDLES)
+  pub within : given ≤ HANDLES_MAX
+  pub one_more : (kind : Kind) → room ≡ Some kind → (len < capacity) × (given < HANDLES_MAX)

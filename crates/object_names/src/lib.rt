@@ -8,7 +8,7 @@ mod entry;
 mod names;
 
 pub use entry::Find;
-pub use names::{Create, HANDLES, Names};
+pub use names::{Create, Names};
 
 #[cfg(test)]
 mod tests;

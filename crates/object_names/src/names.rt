@@ -3,12 +3,9 @@ ghost use Rattle.std.specs.Option.{option_copied};
 ghost use Rattle.object_names.specs.Objects.{Finds, IsHoldable, changed, driver_name, held_once_less, held_once_more, marked, new_object, next_handle, no_names, object_at};
 
 use crate::entry::{Entry, Find};
-use gl_numbers::{Handle, Kind};
+use gl_numbers::{HANDLES_MAX, Handle, Kind};
 use std::alloc::Global;
 use std::marker::Model;
-
-/// The most handles that are given (this project's own).
-pub const HANDLES: u32 = 1_048_576;
 
 /// Why no object can be made.
 #[derive(Clone, Copy, Debug, PartialEq, Eq)]
@@ -56,11 +53,11 @@ impl Names {
     pub fn room(&mut self, kind: Kind) -> Result<(Handle, u32), Create>
         ensures value { IfOk result (λ r. r ≡ (next_handle self.old, driver_name kind (next_handle self.old))) }
         ensures ok { OnOk result (self.new ≡ record self.old { room = Some kind }) }
-        ensures spent { (result ≡ Err Create.Spent) ↔ (length self.old.objects ≡ HANDLES) }
+        ensures spent { (result ≡ Err Create.Spent) ↔ (length self.old.objects ≡ HANDLES_MAX) }
         ensures err { OnErr result (self.new ≡ self.old) }
     {
         let given = self.entries.as_slice().len();
-        if given == HANDLES as usize {
+        if given == HANDLES_MAX as usize {
             return Err(Create::Spent);
         }
         let Ok(()) = self.entries.reserve(1) else {
@@ -76,7 +73,7 @@ impl Names {
     pub fn create(&mut self, kind: Kind) -> Handle
         requires { self.old.room ≡ Some kind }
         ensures value { result ≡ next_handle self.old }
-        ensures within { result ≤ HANDLES }
+        ensures within { result ≤ HANDLES_MAX }
         ensures after { self.new ≡ record { objects = self.old.objects ++ new_object kind ∷ []; room = None } }
     {
         let Ok(()) = self.entries.push(Entry::new(kind)) else {
@@ -174,7 +171,7 @@ fn place(entries: &[Entry], h: Handle) -> usize
 
 /// The name that the driver knows an object by; none is made yet for a shader or a program.
 fn driver_name_of(kind: Kind, h: Handle) -> u32
-    requires { h ≤ HANDLES }
+    requires { h ≤ HANDLES_MAX }
     ensures { result ≡ driver_name kind h }
 {
     match kind {

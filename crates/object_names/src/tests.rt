@@ -1,5 +1,5 @@
-use crate::{Create, Find, HANDLES, Names};
-use gl_numbers::{Handle, Kind};
+use crate::{Create, Find, Names};
+use gl_numbers::{HANDLES_MAX, Handle, Kind};
 use std::process::Abort;
 use std::test::Fail;
 
@@ -28,7 +28,7 @@ fn handles_count_over_all_kinds(rt: HostRuntime) {
 #[test]
 fn the_last_handle_is_1048576(rt: HostRuntime) {
     let mut names = Names::new(rt.alloc());
-    for h in 1..=HANDLES {
+    for h in 1..=HANDLES_MAX {
         assert_eq!(rt; make(&mut names, Kind::Buffer), Ok((h, h.wrapping_add(2))));
     }
     assert_eq!(rt; names.room(Kind::Program), Err(Create::Spent));

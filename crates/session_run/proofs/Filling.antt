@@ -7,13 +7,12 @@ use Rattle.std.specs.Borrow.{Bor}
 use Rattle.std.proofs.lemmas.Bool.{ltb-false, le-ltb, or_parts}
 use Rattle.std.proofs.lemmas.Bool.Decides.{eqb_tells}
 use Rattle.std.proofs.lemmas.List.{length-replicate}
-use Rattle.gl_numbers.specs.BufferWords.{buffer_target_of, usage_of}
+use Rattle.gl_numbers.specs.BufferWords.{buffer_target_of, usage_of, usage_word}
 use Rattle.gl_numbers.specs.declared.errors.GlError.{GlError}
 use Rattle.gl_numbers.specs.declared.errors.GlError.TheVariants as error
 use Rattle.gl_numbers.specs.declared.buffer_words.BufferTarget.{BufferTarget}
 use Rattle.gl_numbers.specs.declared.buffer_words.BufferTarget.TheVariants.{Array, ElementArray}
 use Rattle.gl_numbers.specs.declared.buffer_words.Usage.{Usage}
-use Rattle.gl_numbers.specs.declared.buffer_words.Usage.TheVariants.{StreamDraw, StaticDraw, DynamicDraw}
 use Rattle.call_records.specs.declared.calls.Call.TheVariants as Call
 use Rattle.call_records.specs.declared.calls.Fill.{Fill}
 use Rattle.call_records.specs.declared.calls.Fill.TheVariants.{Size, Bytes}
@@ -26,7 +25,7 @@ use Rattle.buffer_store.specs.Rules as store
 use Rattle.buffer_store.specs.Stored.{Shelf, Stored, changed, found, bound_buffer}
 use Rattle.buffer_store.specs.Stored as stored
 use Rattle.gl_model.specs.Refusals.{first_refusal}
-use Rattle.gl_model.specs.Buffers.{Buffer, binding, bound_to, take_data, usage_word}
+use Rattle.gl_model.specs.Buffers.{Buffer, binding, bound_to, take_data}
 use Rattle.gl_model.specs.PageState.{PageState, Object, buffer_at, on_buffer, with_buffer, IsBoundTo, IsSound}
 use Rattle.gl_model.specs.DriverStep.{first_target_of, size_of}
 use Rattle.gl_model.proofs.Refusing.{passed}
@@ -300,28 +299,22 @@ does_data kept w t u target usage fill filling new (Err e) k is is_used fits fil
   subst (λ (s : Stored). Keeps (record kept { buffers = s }) w) (sym err) k,
 )
 
--- the word of a usage is the same in the words of either
-word-same : (u : Usage) → Store.word_of u ≡ usage_word u
-word-same StreamDraw = refl
-word-same StaticDraw = refl
-word-same DynamicDraw = refl
-
 -- a parameter of a buffer that is there
 parameter-same : (b : Option Buffer) (name n : ℕ) → is_some b ≡ true
-    → IfSome (option_map stored_buffer b) (λ b. n ≡ (if name == 34660 then b.size else Store.word_of b.usage)) → n ≡ option_map_or (parameter_of name) b 0
+    → IfSome (option_map stored_buffer b) (λ b. n ≡ (if name == 34660 then b.size else usage_word b.usage)) → n ≡ option_map_or (parameter_of name) b 0
 parameter-same None name n there is = absurd cc
-parameter-same (Some b) name n there is = is ∙ ap (λ word. if name == 34660 then length b.bytes else word) (word-same b.usage)
+parameter-same (Some b) name n there is = is
 
 -- what getBufferParameter answers
 pub answers_parameter : (kept : Kept) (w : PageState) (t : BufferTarget) (target name handle n : ℕ) → Keeps kept w → buffer_target_of target ≡ Some t
     → (name == 34660 || name == 34661) ≡ true → Some handle ≡ stored.binding kept.buffers t
-    → IfSome (get kept.buffers.buffers handle) (λ b. n ≡ (if name == 34660 then b.size else Store.word_of b.usage))
+    → IfSome (get kept.buffers.buffers handle) (λ b. n ≡ (if name == 34660 then b.size else usage_word b.usage))
     → Answers w (Call.GetBufferParameter target name) (Ok (Value.Number n))
 answers_parameter kept w t target name handle n k is known bound number =
     let here : Some handle ≡ binding w.bound t = bound ∙ binding-same kept w t k in
     let there : true ≡ is_some (buffer_at w.objects handle) =
     subst (λ (o : Option ℕ). is_some o ≡ is_some (option_and_then (buffer_at w.objects) o)) (sym here) (some-bound w.objects t (binding w.bound t) (k.sound.bound t)) in
-    let same = parameter-same (buffer_at w.objects handle) name n (sym there) (subst (λ (o : Option Store.Buffer). IfSome o (λ b. n ≡ (if name == 34660 then b.size else Store.word_of b.usage))) (k.buffers handle) number) in
+    let same = parameter-same (buffer_at w.objects handle) name n (sym there) (subst (λ (o : Option Store.Buffer). IfSome o (λ b. n ≡ (if name == 34660 then b.size else usage_word b.usage))) (k.buffers handle) number) in
     (rw (is, known, ← here) refl, rw (is, ← here) (ap Value.Number same))
 
 -- nothing bound has a parameter

@@ -1,8 +1,8 @@
 -- The bytes of few commands.
 use Rattle.std.proofs.Common.{ℕ, ℤ, ◌+◌, ◌≤◌, Option, Result, List, [], ◌∷◌, ◌++◌, length, subst, sym, append-nil, length-append, arith}
 use Rattle.std.specs.Borrow.{Bor}
-use Rattle.gl_numbers.specs.Bytes.{le32}
-use Rattle.gl_numbers.proofs.Bytes.{length-le32}
+use Rattle.gl_numbers.specs.Bytes.{le32, le64}
+use Rattle.gl_numbers.proofs.Bytes.{length-le32, length-le64}
 use Rattle.wire_io.specs.Sinks.{Sends}
 use Rattle.command_stream.specs.declared.command.Command.{Command}
 use Rattle.command_stream.specs.declared.command.Command.TheVariants.{MakeBuffer, DropBuffer, BindBuffer, BufferSize, BufferBytes}
@@ -10,8 +10,6 @@ use Rattle.command_stream.specs.Commands.{command_spelling, Allowed}
 use Rattle.call_records.specs.declared.calls.Call.TheVariants.{BufferData, BufferSubData}
 use Rattle.call_records.specs.declared.calls.Fill.TheVariants.{Bytes}
 use Rattle.call_records.specs.Records.{Fits}
-use Rattle.call_records.specs.Longs.{le64}
-use Rattle.call_records.proofs.Lengths.{length-le64}
 use Rattle.session_run.specs.Applied.{bytes_of}
 
 -- sending one command is sending a list of one

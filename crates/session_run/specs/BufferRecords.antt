@@ -2,14 +2,14 @@
 -- ES 2.0 sections 2.9 and 6.1.3). The rules of a call stand in their order.
 use Rattle.std.specs.Prelude.{ℕ, ℤ, pos, negsuc, ◌+◌, Bool, true, false, not, ◌&&◌, ◌||◌, is_some, List, [], ◌∷◌, length, replicate, ◌==◌, nat_lt, if◌then◌else◌, unwrap_or}
 use Rattle.std.specs.Option.{option_map_or}
-use Rattle.gl_numbers.specs.BufferWords.{buffer_target_of}
+use Rattle.gl_numbers.specs.BufferWords.{buffer_target_of, usage_word}
+use Rattle.gl_numbers.specs.declared.buffer_words.TheConstants.{BUFFER_SIZE, BUFFER_USAGE}
 use Rattle.gl_numbers.specs.declared.errors.GlError.TheVariants.{Enum, Value, Operation}
+use Rattle.gl_numbers.specs.declared.limits.TheConstants.{BUFFER_BYTES_MAX}
 use Rattle.call_records.specs.declared.calls.Fill.{Fill}
 use Rattle.call_records.specs.declared.calls.Fill.TheVariants.{Size, Bytes}
-use Rattle.gl_model.specs.declared.limits.TheConstants.{MOST_BYTES}
-use Rattle.gl_model.specs.declared.parameters.TheConstants.{BUFFER_SIZE, BUFFER_USAGE}
 use Rattle.gl_model.specs.Refusals.{Rule, when}
-use Rattle.gl_model.specs.Buffers.{Buffer, is_buffer_target, is_usage, usage_word, bound_to, bind, non_zero, is_for_other_target, take_target, take_data, patch}
+use Rattle.gl_model.specs.Buffers.{Buffer, is_buffer_target, is_usage, bound_to, bind, non_zero, is_for_other_target, take_target, take_data, patch}
 use Rattle.gl_model.specs.PageState.{PageState, buffer_at, page_buffer, with_buffer}
 use Rattle.gl_model.specs.DriverStep.{first_target_of, size_of}
 
@@ -44,7 +44,7 @@ whole (negsuc n) = 0
 
 -- a bufferData asks for a size that no buffer has
 abbrev pub is_bad_size : Fill → Bool
-is_bad_size (Size size) = is_negative size || nat_lt MOST_BYTES (whole size)
+is_bad_size (Size size) = is_negative size || nat_lt BUFFER_BYTES_MAX (whole size)
 is_bad_size (Bytes bytes) = false
 
 -- the bytes of a bufferData; a size is of zeros

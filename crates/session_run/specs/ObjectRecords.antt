@@ -3,7 +3,7 @@
 use Rattle.std.specs.Prelude.{ℕ, ◌+◌, Bool, not, ◌&&◌, List, [], ◌∷◌, ◌++◌, length, ◌==◌, nat_le, if◌then◌else◌}
 use Rattle.gl_numbers.specs.declared.errors.GlError.TheVariants.{Operation}
 use Rattle.gl_numbers.specs.declared.kinds.Kind.{Kind}
-use Rattle.gl_model.specs.declared.limits.TheConstants.{MOST_HANDLES}
+use Rattle.gl_numbers.specs.declared.limits.TheConstants.{HANDLES_MAX}
 use Rattle.gl_model.specs.Refusals.{Rule, when}
 use Rattle.gl_model.specs.Buffers.{new_buffer, unbind}
 use Rattle.gl_model.specs.PageState.{PageState, buffer_content, new_object, was_given, is_live, mark, with_object}
@@ -11,7 +11,7 @@ use Rattle.gl_model.specs.PageState.{PageState, buffer_content, new_object, was_
 -- a create: the page has all its handles
 abbrev pub create_rules : PageState → List Rule
 create_rules w =
-    when (nat_le MOST_HANDLES (length w.objects)) Operation
+    when (nat_le HANDLES_MAX (length w.objects)) Operation
     ∷ []
 
 -- createBuffer: one more object

@@ -1,6 +1,6 @@
 ghost use Rattle.std.specs.Prelude.{◌≡◌, ◌≤◌, false, IfOk, IfSome, IsSome, ◌==◌, ◌||◌, if◌then◌else◌};
 ghost use Rattle.std.specs.FinMap.{get};
-ghost use Rattle.buffer_store.specs.Buffer.{word_of};
+ghost use Rattle.gl_numbers.specs.BufferWords.{usage_word};
 ghost use Rattle.session_run.specs.Sent.{bound_name};
 ghost use Rattle.gl_model.specs.PageState.{PageState};
 ghost use Rattle.wire_io.specs.Faults.{HasCause};
@@ -16,8 +16,9 @@ use crate::sending::{send, send_bytes, send_data};
 use buffer_store::Content;
 use call_records::{Fill, Value};
 use command_stream::Command;
-use gl_model::{BUFFER_SIZE, BUFFER_USAGE, MOST_BYTES};
-use gl_numbers::{BufferTarget, GlError, Handle, Usage};
+use gl_numbers::{
+    BUFFER_BYTES_MAX, BUFFER_SIZE, BUFFER_USAGE, BufferTarget, GlError, Handle, Usage,
+};
 use object_names::Find;
 use wire_io::{Failed, Sink};
 
@@ -28,7 +29,7 @@ fn content_of(fill: Fill<'_>) -> Option<Content<'_>>
     match fill {
         Fill::Bytes(bytes) => Some(Content::Bytes(bytes)),
         Fill::Size(size) => {
-            if size < 0 || size > i64::from(MOST_BYTES) {
+            if size < 0 || size > i64::from(BUFFER_BYTES_MAX) {
                 return None;
             }
             Some(Content::Size(size as u32))
@@ -134,7 +135,7 @@ impl Page {
     fn patch(&mut self, target: u32, offset: i64, bytes: &[u8]) -> Result<(), GlError>
         requires { IsKept self.old }
         ensures does { (w : PageState) → Keeps self.old w → Does w (BufferSubData target offset bytes.entry) self.new result }
-        ensures within { IfOk result (λ _. (is_negative offset ≡ false) × (whole offset ≤ MOST_BYTES)) }
+        ensures within { IfOk result (λ _. (is_negative offset ≡ false) × (whole offset ≤ BUFFER_BYTES_MAX)) }
     {
         let Some(target) = BufferTarget::from_u32(target) else {
             return Err(GlError::Enum);
@@ -184,7 +185,7 @@ impl Page {
     /// The size in bytes of a buffer that is there, or the word of its usage.
     fn parameter(&self, handle: Handle, name: u32) -> u32
         requires { IsSome (get self.now.buffers.buffers handle) }
-        ensures { IfSome (get self.now.buffers.buffers handle) (λ b. result ≡ (if name == BUFFER_SIZE then b.size else word_of b.usage)) }
+        ensures { IfSome (get self.now.buffers.buffers handle) (λ b. result ≡ (if name == BUFFER_SIZE then b.size else usage_word b.usage)) }
     {
         if name == BUFFER_SIZE {
             self.buffers.size(handle)
