@@ -1,5 +1,5 @@
 -- How long spellings are.
-use Rattle.std.proofs.Common.{◌≡◌, ℕ, ◌+◌, length, length-append, arith, refl}
+use Rattle.std.proofs.Common.{◌≡◌, ◌+◌, length, length-append, arith, refl}
 use Rattle.gl_numbers.specs.Bytes.{le32}
 use Rattle.gl_numbers.proofs.Bytes.{length-le32, length-le64}
 use Rattle.call_records.specs.declared.calls.Call.{Call}

@@ -1,8 +1,8 @@
-ghost use Rattle.std.specs.Prelude.{◌≡◌, ℕ, length, true};
+ghost use Rattle.std.specs.Prelude.{◌≡◌, length, true};
 ghost use Rattle.call_records.specs.Records.{operation_of, body_of, spelling, HasWords, Fits};
 ghost use Rattle.call_records.specs.Operations.{allows, layout_of};
 
-use crate::operations::{BODY_MAX, HEADER_BYTES, Layout, Operation};
+use crate::operations::{HEADER_BYTES, Operation};
 use gl_numbers::{Kind, i64_at, u32_at};
 
 /// What a call creates (WebGL 1.0 section 5.14).

@@ -1,4 +1,4 @@
-ghost use Rattle.std.specs.Prelude.{◌≡◌, ℕ, IfSome};
+ghost use Rattle.std.specs.Prelude.{◌≡◌, IfSome};
 ghost use Rattle.call_records.specs.Operations.{number_of, layout_of, operation_numbered, allows};
 
 /// The number of the record that closes a session.

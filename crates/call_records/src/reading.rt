@@ -1,9 +1,9 @@
-ghost use Rattle.std.specs.Prelude.{◌≡◌, ℕ, ◌+◌, ◌^◌, ◌<◌, ◌≤◌, ◌++◌, List, length, true, IfOk, OnOk, IfErr};
+ghost use Rattle.std.specs.Prelude.{◌≡◌, ◌+◌, ◌^◌, ◌<◌, ◌≤◌, ◌++◌, length, true, IfOk, OnOk, IfErr};
 ghost use Rattle.std.specs.Io.KnownBytes.{prepend_known};
 ghost use Rattle.gl_numbers.specs.Bytes.{le32};
 ghost use Rattle.wire_io.specs.Sources.{WhereTold};
 ghost use Rattle.call_records.specs.Operations.{allows, layout_of};
-ghost use Rattle.call_records.specs.Records.{session_start, Fits, operation_of, body_of, HasWords};
+ghost use Rattle.call_records.specs.Records.{session_start, operation_of, body_of, HasWords};
 ghost use Rattle.call_records.specs.Reading.{StartAnswers, Answers, Refuses, ReadCause, step_spelling, HasFits, IsStartEnd, IsRecordEnd, HasRoom};
 ghost use Rattle.call_records.specs.Parts.{EndsShort, Judges, TakesHead, EndsClosed};
 

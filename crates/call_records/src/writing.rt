@@ -1,4 +1,4 @@
-ghost use Rattle.std.specs.Prelude.{◌≡◌, ◌++◌, length};
+ghost use Rattle.std.specs.Prelude.{◌≡◌, ◌++◌};
 ghost use Rattle.gl_numbers.specs.Bytes.{le32, le64};
 ghost use Rattle.wire_io.specs.Faults.{HasCause};
 ghost use Rattle.wire_io.specs.Sinks.{Sends};

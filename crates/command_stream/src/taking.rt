@@ -1,4 +1,4 @@
-ghost use Rattle.std.specs.Prelude.{◌≡◌, ℕ, ◌+◌, ◌<◌, ◌≤◌, ◌++◌, List, length, take, true};
+ghost use Rattle.std.specs.Prelude.{◌≡◌, ◌+◌, ◌<◌, ◌≤◌, ◌++◌, length, take, true};
 ghost use Rattle.command_stream.specs.DecoderState.{IsPart};
 ghost use Rattle.command_stream.specs.Taking.{AreFirst, Judges, StartsIn, TakesIn};
 

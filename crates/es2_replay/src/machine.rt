@@ -1,4 +1,4 @@
-ghost use Rattle.std.specs.Prelude.{◌≡◌, ℕ, ◌+◌, ◌<◌, ◌^◌, Option, None, is_some, length, OnOk, OnErr};
+ghost use Rattle.std.specs.Prelude.{◌≡◌, ◌+◌, ◌<◌, ◌^◌, Option, None, is_some, OnOk, OnErr};
 ghost use Rattle.gl_model.specs.Buffers.{bound_to, take_target};
 ghost use Rattle.gl_model.specs.DriverState.{first_driver};
 ghost use Rattle.gl_model.specs.DriverStep.{refusal, effect, first_target_of, size_of};

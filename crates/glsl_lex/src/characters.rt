@@ -1,4 +1,4 @@
-ghost use Rattle.std.specs.Prelude.{◌≡◌, length, codes};
+ghost use Rattle.std.specs.Prelude.{◌≡◌};
 ghost use Rattle.glsl_tree.specs.Characters.{is_among, is_letter, is_digit, is_octal_digit, is_hexadecimal_digit, is_blank, is_line_break, is_mark, is_character};
 ghost use Rattle.glsl_tree.specs.Spellings.{is_name_character};
 

@@ -1,4 +1,4 @@
-ghost use Rattle.std.specs.Prelude.{◌≡◌, length};
+ghost use Rattle.std.specs.Prelude.{◌≡◌};
 ghost use Rattle.glsl_tree.specs.Comments.{is_in_charset};
 
 use crate::characters::is_character;

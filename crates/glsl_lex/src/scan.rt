@@ -1,4 +1,4 @@
-ghost use Rattle.std.specs.Prelude.{◌≡◌, ◌≤◌, ◌<◌, ◌+◌, length};
+ghost use Rattle.std.specs.Prelude.{◌≤◌, ◌<◌, length};
 ghost use Rattle.glsl_tree.specs.SourceTokens.{source_tokens};
 ghost use Rattle.glsl_lex.specs.Scan.{Answers};
 

@@ -1,4 +1,4 @@
-ghost use Rattle.std.specs.Prelude.{◌≡◌, ◌≤◌, ◌<◌, ◌+◌, ◌-◌, Bool, true, false, if◌then◌else◌, [], IfOk, OnOk, length};
+ghost use Rattle.std.specs.Prelude.{◌≡◌, ◌≤◌, ◌<◌, ◌+◌, ◌-◌, true, false, if◌then◌else◌, [], IfOk, OnOk, length};
 ghost use Rattle.glsl_tree.specs.Token.{plain, plain_tokens};
 ghost use Rattle.glsl_preproc.specs.Replacement.{opens, closes};
 ghost use Rattle.glsl_preproc.specs.LoneClosers.{lone_closers, AreCounts};
@@ -47,7 +47,7 @@ fn counts_of(alloc: Global, list: &[Token]) -> Result<Vec<usize>, AllocError>
 }
 
 impl Brackets {
-    ghost use Rattle.std.specs.Prelude.{◌<◌, true, length, ◌≡◌, Bool, false, [], OnOk};
+    ghost use Rattle.std.specs.Prelude.{◌<◌, true, length, ◌≡◌, false, [], OnOk};
     ghost use Rattle.glsl_tree.specs.Token.{plain_tokens};
     ghost use Rattle.glsl_preproc.specs.LoneClosers.{lone_closers, AreCounts};
 

@@ -20,7 +20,7 @@ fn other_part(part: Part) -> Part
 }
 
 impl Reader {
-    ghost use Rattle.std.specs.Prelude.{◌≡◌, ◌≤◌, ◌==◌, Bool, true, false, [], length};
+    ghost use Rattle.std.specs.Prelude.{◌≡◌, ◌≤◌, ◌==◌, true, false, length};
     ghost use Rattle.glsl_tree.specs.Token.{plain_tokens};
     ghost use Rattle.glsl_preproc.specs.Conditions.{condition};
     ghost use Rattle.glsl_preproc.specs.Directives.{asked_defined};

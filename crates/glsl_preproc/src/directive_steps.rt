@@ -8,7 +8,7 @@ use glsl_tree::Token;
 use std::alloc::Global;
 
 impl Reader {
-    ghost use Rattle.std.specs.Prelude.{◌≡◌, ◌≤◌, ◌==◌, Bool, true, false, [], length};
+    ghost use Rattle.std.specs.Prelude.{◌≤◌, ◌==◌, true, false, [], length};
     ghost use Rattle.glsl_tree.specs.Token.{plain_tokens};
     ghost use Rattle.glsl_preproc.specs.Directives.{after_define};
     ghost use Rattle.glsl_preproc.specs.Expansion.{with_macros, line_step, directive_step, directive, skipping_inner, skipping_outer, skipping};

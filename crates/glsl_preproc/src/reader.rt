@@ -33,7 +33,7 @@ pub struct Reader {
 }
 
 impl Reader {
-    ghost use Rattle.std.specs.Prelude.{◌≡◌, ◌≤◌, ◌<◌, ◌==◌, ◌+◌, ◌^◌, Bool, true, false, [], ◌++◌, IfOk, OnOk, length};
+    ghost use Rattle.std.specs.Prelude.{◌≡◌, ◌≤◌, ◌<◌, ◌==◌, ◌+◌, true, false, [], ◌++◌, IfOk, OnOk, length};
     ghost use Rattle.glsl_tree.specs.Token.{plain_tokens};
     ghost use Rattle.glsl_preproc.specs.Expansion.{at_start, is_read, flushed, read_step, skipped_step, text_step, stray_hash, before_hash, line_of, finished};
     ghost use Rattle.glsl_preproc.specs.ReaderViews.{state_of, Steps, Finishes};

@@ -11,7 +11,7 @@ use crate::macros::Macro;
 use crate::parameters::substituted;
 use crate::tokens::{append_at_line, copy_of, line_number, push_list, push_name};
 use glsl_tree::Token;
-use std::alloc::{AllocError, Global};
+use std::alloc::Global;
 
 /// The most tokens that one expansion handles, 16,777,216.
 pub const WORK: u32 = 16_777_216;

@@ -1,4 +1,4 @@
-ghost use Rattle.std.specs.Prelude.{◌≤◌, length, All, IfOk};
+ghost use Rattle.std.specs.Prelude.{All, IfOk};
 ghost use Rattle.glsl_tree.specs.Token.{plain_tokens};
 ghost use Rattle.glsl_preproc.specs.ReaderViews.{Answers};
 ghost use Rattle.glsl_preproc.specs.TextTokens.{IsTextToken, ParamsBehindDefine};

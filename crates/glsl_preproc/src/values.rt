@@ -1,5 +1,5 @@
-ghost use Rattle.std.specs.Prelude.{◌≡◌, ◌+ℤ◌, ◌-ℤ◌, neg_ℤ, int_div, int_rem, if◌then◌else◌, None, Some, IfSome, pos, ◌*ℤ◌, ◌^◌, ◌<◌};
-ghost use Rattle.glsl_preproc.specs.Values.{fitting, is_zero, truth, shift_count, left_by, right_by, computed, both, applied_to, applied, negated, complemented, inverted, single_operator, double_operator, operator_of, level_of, divided, remainder};
+ghost use Rattle.std.specs.Prelude.{◌≡◌, ◌+ℤ◌, ◌-ℤ◌, None, Some, IfSome, pos, ◌*ℤ◌, ◌^◌, ◌<◌};
+ghost use Rattle.glsl_preproc.specs.Values.{fitting, truth, shift_count, left_by, right_by, computed, applied, negated, complemented, inverted, single_operator, double_operator, operator_of, level_of, divided, remainder};
 
 use crate::operators::Operator;
 

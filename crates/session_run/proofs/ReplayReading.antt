@@ -13,7 +13,7 @@ use Rattle.wire_io.proofs.Known.{taken_twice}
 use Rattle.command_stream.specs.declared.operation.TheConstants.{START_BYTES}
 use Rattle.command_stream.specs.declared.command.Command.{Command}
 use Rattle.command_stream.specs.Commands.{command_spelling, stream}
-use Rattle.command_stream.specs.DecoderState.{DecoderState, IsPart, IsRefused, start_taken}
+use Rattle.command_stream.specs.DecoderState.{DecoderState, IsPart, start_taken}
 use Rattle.command_stream.proofs.OneSpelling.{stream-one}
 use Rattle.command_stream.proofs.Decoding.{refused-more}
 use Rattle.gl_model.specs.DriverState.{first_driver}

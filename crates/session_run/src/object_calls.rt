@@ -1,4 +1,4 @@
-ghost use Rattle.std.specs.Prelude.{◌≡◌, ◌≤◌, true, IfOk, IsSomeAnd};
+ghost use Rattle.std.specs.Prelude.{◌≡◌, true, IfOk, IsSomeAnd};
 ghost use Rattle.gl_numbers.specs.declared.kinds.Kind.TheVariants as kind;
 ghost use Rattle.object_names.specs.Objects.{object_at, IsOne};
 ghost use Rattle.object_names.specs.declared.entry.Find.TheVariants as find;

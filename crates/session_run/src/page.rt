@@ -1,4 +1,4 @@
-ghost use Rattle.std.specs.Prelude.{◌≡◌, Option, IsTrue, IfOk, OnErr};
+ghost use Rattle.std.specs.Prelude.{◌≡◌};
 ghost use Rattle.gl_numbers.specs.Errors.{code_of};
 ghost use Rattle.gl_model.specs.Errors.{raise};
 ghost use Rattle.gl_model.specs.PageState.{PageState, first_page};

@@ -1,4 +1,4 @@
-ghost use Rattle.std.specs.Prelude.{◌≡◌, ◌+◌, ◌≤◌, [], ◌∷◌, length};
+ghost use Rattle.std.specs.Prelude.{◌+◌, ◌≤◌, [], ◌∷◌, length};
 ghost use Rattle.wire_io.specs.Faults.{HasCause};
 ghost use Rattle.wire_io.specs.Sinks.{Sends};
 ghost use Rattle.command_stream.specs.Commands.{Allowed};

@@ -1,5 +1,4 @@
-ghost use Rattle.std.specs.Prelude.{◌≡◌, ℕ, ◌+◌, ◌≤◌, ◌^◌, List, Some, All, length, IfErr};
-ghost use Rattle.wire_io.specs.Faults.{HasCause};
+ghost use Rattle.std.specs.Prelude.{◌≡◌, ◌+◌, ◌≤◌, ◌^◌, List, Some, All, length, IfErr};
 ghost use Rattle.call_records.specs.Records.{Fits, session};
 ghost use Rattle.call_records.specs.declared.calls.Call as Calls;
 ghost use Rattle.gl_model.specs.PageState.{PageState, first_page};

@@ -15,7 +15,6 @@ mod replay_tests;
 mod tests;
 mod tool;
 
-use std::alloc::{AllocError, Global};
 use std::io;
 use std::process::ExitCode;
 use std::rt::Env;

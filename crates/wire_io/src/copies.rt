@@ -1,4 +1,4 @@
-ghost use Rattle.std.specs.Prelude.{◌≡◌, ℕ, ◌+◌, ◌-◌, ◌<◌, ◌≤◌, [], ◌++◌, min, length, take, drop};
+ghost use Rattle.std.specs.Prelude.{◌≡◌, ◌+◌, ◌-◌, ◌<◌, ◌≤◌, [], ◌++◌, min, length, take, drop};
 
 /// Copies as many bytes as fit from the front of `from` to the front of `into`, and answers how many.
 pub fn copy_front(from: &[u8], into: &mut [u8]) -> usize

@@ -1,4 +1,4 @@
-ghost use Rattle.std.specs.Prelude.{◌≡◌, ℕ, ◌+◌, ◌-◌, ◌^◌, ◌<◌, ◌≤◌, ◌↔◌, ◌⊎◌, [], List, Option, Some, min, drop, length, vec_len, Contains, IsTrue, IsErr, IfOk, OnOk, OnErr, is_err, if◌then◌else◌};
+ghost use Rattle.std.specs.Prelude.{◌≡◌, ◌+◌, ◌-◌, ◌^◌, ◌<◌, ◌≤◌, ◌↔◌, ◌⊎◌, [], Some, min, drop, length, vec_len, Contains, IsTrue, IsErr, IfOk, OnOk, OnErr, is_err, if◌then◌else◌};
 ghost use Rattle.wire_io.specs.Faults.{HasCause};
 ghost use Rattle.wire_io.specs.Sources.{Reads};
 ghost use Rattle.wire_io.specs.Sinks.{Writes};
