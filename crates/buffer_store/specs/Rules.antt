@@ -19,10 +19,10 @@ Answers refusal (Ok _) = refusal ≡ None
 Answers refusal (Err e) = refusal ≡ Some e
 
 -- a call that takes memory for this target may want it where nothing refuses
-abbrev pub AnswersOrWants : BufferTarget → Option GlError → Result (Unit {0}) GlError → Type 0
-AnswersOrWants t refusal (Ok _) = refusal ≡ None
-AnswersOrWants t refusal (Err Memory) = (refusal ≡ None) × (t ≡ ElementArray)
-AnswersOrWants t refusal (Err e) = refusal ≡ Some e
+abbrev pub AnswersOrRunsOut : BufferTarget → Option GlError → Result (Unit {0}) GlError → Type 0
+AnswersOrRunsOut t refusal (Ok _) = refusal ≡ None
+AnswersOrRunsOut t refusal (Err Memory) = (refusal ≡ None) × (t ≡ ElementArray)
+AnswersOrRunsOut t refusal (Err e) = refusal ≡ Some e
 
 -- a buffer stays with the target that it was first bound to
 abbrev pub refused_of : BufferTarget → Option Buffer → Option GlError

@@ -7,7 +7,7 @@ ghost use Rattle.gl_numbers.specs.BufferWords.{usage_word};
 ghost use Rattle.buffer_store.specs.Buffer.{IsSound, new_buffer};
 ghost use Rattle.buffer_store.specs.Content.{HasShortBytes};
 ghost use Rattle.buffer_store.specs.Stored.{IsBoundFirst, IsOf, binding, nothing_stored, without};
-ghost use Rattle.buffer_store.specs.Rules.{Answers, AnswersOrWants, bind_refusal, bound_to, data_refusal, filled, patched, sub_data_refusal, without_buffer};
+ghost use Rattle.buffer_store.specs.Rules.{Answers, AnswersOrRunsOut, bind_refusal, bound_to, data_refusal, filled, patched, sub_data_refusal, without_buffer};
 
 use crate::Content;
 use crate::by_handle::ByHandle;
@@ -53,7 +53,7 @@ impl Buffers {
     }
 
     /// Adds the new buffer `h`, which isn't there yet: no bytes, usage STATIC_DRAW, bound to nothing. Err where
-    /// memory is wanting, and then nothing changes.
+    /// memory runs out, and then nothing changes.
     pub fn add(&mut self, h: Handle) -> Result<(), Memory>
         requires { IsNone (get self.old.buffers h) }
         ensures ok { OnOk result (self.new ≡ record self.old { buffers = insert self.old.buffers h new_buffer }) }
@@ -92,7 +92,7 @@ impl Buffers {
         usage: Usage,
     ) -> Result<(), GlError>
         requires { HasShortBytes content }
-        ensures answer { AnswersOrWants target (data_refusal self.old target content.entry) result }
+        ensures answer { AnswersOrRunsOut target (data_refusal self.old target content.entry) result }
         ensures ok { OnOk result (self.new ≡ filled self.old target content.entry usage) }
         ensures err { OnErr result (self.new ≡ self.old) }
     {

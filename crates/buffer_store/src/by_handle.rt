@@ -164,7 +164,7 @@ impl ByHandle {
     }
 }
 
-/// Adds empty slots until there is one of this handle. Err where memory is wanting. An empty slot holds no buffer, so
+/// Adds empty slots until there is one of this handle. Err where memory runs out. An empty slot holds no buffer, so
 /// the same buffers are held either way.
 #[tactic(auto, using(crate::proofs::Shelf::of_shelf))]
 fn reach(slots: &mut Vec<Option<Held>>, h: Handle) -> Result<(), Memory>

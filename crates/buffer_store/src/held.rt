@@ -52,7 +52,7 @@ impl Held {
         }
     }
 
-    /// A buffer of this target with this content; Err only where memory is wanting for the bytes of an element
+    /// A buffer of this target with this content; Err only where memory runs out for the bytes of an element
     /// buffer.
     pub(crate) fn filled(
         alloc: Global,

@@ -1,5 +1,5 @@
 pub mod Lengths
 pub mod Refusals
 pub mod Sending
-pub mod OneSpelling
-pub mod ReplyFronts
+pub mod OneEncoding
+pub mod ReplyPrefixes

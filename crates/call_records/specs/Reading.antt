@@ -9,12 +9,12 @@ use Rattle.call_records.specs.declared.reading.Step.TheVariants.{Call, End}
 use Rattle.call_records.specs.declared.reading.ReadEnd.{ReadEnd}
 use Rattle.call_records.specs.declared.reading.ReadEnd.TheVariants.{Truncated, Magic, Version, UnknownOp, BodyLong, BodyShape, AfterEnd, InputLong, ReadFault}
 use Rattle.call_records.specs.Operations.{is_known, has_shape}
-use Rattle.call_records.specs.Records.{spelling, session_start, closing_record, Fits}
+use Rattle.call_records.specs.Records.{encoding, session_start, closing_record, Fits}
 
 -- the record of a step
-abbrev pub step_spelling : Steps.Step → List ℕ
-step_spelling (Call call) = spelling call
-step_spelling End = closing_record
+abbrev pub step_encoding : Steps.Step → List ℕ
+step_encoding (Call call) = encoding call
+step_encoding End = closing_record
 
 -- a call that was read has a record
 abbrev pub HasFits : Steps.Step → Type 0
@@ -80,7 +80,7 @@ Refuses at old new _ = ⊥
 
 -- what reading the record at an offset answers
 abbrev pub Answers : ℕ → List ℕ → List ℕ → Result Steps.Step ReadEnd → Type 0
-Answers at old new (Ok (Call call)) = old ≡ spelling call ++ new
+Answers at old new (Ok (Call call)) = old ≡ encoding call ++ new
 Answers at old new (Ok End) = (old ≡ closing_record) × (new ≡ [])
 Answers at old new (Err e) = Refuses at old new e
 

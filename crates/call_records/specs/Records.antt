@@ -1,4 +1,4 @@
--- Calls as records: how each call is spelled, and how a session of them is (this project's own format).
+-- Calls as records: how each call is encoded, and how a session of them is (this project's own format).
 use Rattle.std.specs.Prelude.{◌≡◌, ℕ, ◌<◌, ◌≤◌, ◌^◌, List, [], ◌++◌, length, codes}
 use Rattle.std.specs.List.{flat_map}
 use Rattle.gl_numbers.specs.Bytes.{le32, le64, IsLong}
@@ -42,8 +42,8 @@ body_of (GetBufferParameter target name) = le32 target ++ le32 name
 body_of GetError = []
 
 -- the operation, the body's length, and the body
-abbrev pub spelling : Call → List ℕ
-spelling call = le32 (op_of call) ++ (le32 (length (body_of call)) ++ body_of call)
+abbrev pub encoding : Call → List ℕ
+encoding call = le32 (op_of call) ++ (le32 (length (body_of call)) ++ body_of call)
 
 -- the fields are words, or have 64 bits with a sign; buffers are the only kind that has records
 abbrev pub HasWords : Call → Type 0
@@ -62,7 +62,7 @@ pub record Fits (call : Call) : Type 0 where
   pub words : HasWords call
   pub body : length (body_of call) ≤ BODY_MAX
 
--- the call without where its tail lies in memory: calls with one spelling are equal so
+-- the call without where its tail lies in memory: calls with one encoding are equal so
 abbrev pub plain : Call → Call
 plain (Create Buffer) = Create Buffer
 plain (Delete kind handle) = Delete kind handle
@@ -84,4 +84,4 @@ closing_record = le32 CLOSE ++ le32 0
 
 -- a session: the header, the calls' records in order, and the closing record
 abbrev pub session : List Call → List ℕ
-session calls = session_start ++ (flat_map spelling calls ++ closing_record)
+session calls = session_start ++ (flat_map encoding calls ++ closing_record)

@@ -25,8 +25,8 @@ content_of (Text name) = le32 (length name) ++ name
 content_of (Active size kind name) = le32 size ++ (le32 kind ++ (le32 (length name) ++ name))
 
 -- the code raised, the tag, and the content
-abbrev pub reply_spelling : Reply → List ℕ
-reply_spelling reply = le32 reply.raised ++ (le32 (tag_of reply.value) ++ content_of reply.value)
+abbrev pub reply_encoding : Reply → List ℕ
+reply_encoding reply = le32 reply.raised ++ (le32 (tag_of reply.value) ++ content_of reply.value)
 
 -- the value is one that a reply can hold: its numbers are words, a list has at most 16 of them, a name at most 256 bytes
 abbrev pub IsValue : Values.Value → Type 0

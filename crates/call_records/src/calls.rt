@@ -1,5 +1,5 @@
 ghost use Rattle.std.specs.Prelude.{◌≡◌, length, true};
-ghost use Rattle.call_records.specs.Records.{operation_of, body_of, spelling, HasWords, Fits};
+ghost use Rattle.call_records.specs.Records.{operation_of, body_of, encoding, HasWords, Fits};
 ghost use Rattle.call_records.specs.Operations.{allows, layout_of};
 
 use crate::operations::{HEADER_BYTES, Operation};
@@ -48,7 +48,7 @@ impl Call<'_> {
     #[tactic(auto, using(crate::proofs::Lengths::lengths))]
     pub fn size(&self) -> usize
         requires { Fits self.now }
-        ensures { result ≡ length (spelling self.now) }
+        ensures { result ≡ length (encoding self.now) }
     {
         HEADER_BYTES
             + match self {

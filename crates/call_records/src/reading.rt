@@ -4,7 +4,7 @@ ghost use Rattle.gl_numbers.specs.Bytes.{le32};
 ghost use Rattle.wire_io.specs.Sources.{WhereTold};
 ghost use Rattle.call_records.specs.Operations.{allows, layout_of};
 ghost use Rattle.call_records.specs.Records.{session_start, operation_of, body_of, HasWords};
-ghost use Rattle.call_records.specs.Reading.{StartAnswers, Answers, Refuses, ReadCause, step_spelling, HasFits, IsStartEnd, IsRecordEnd, HasRoom};
+ghost use Rattle.call_records.specs.Reading.{StartAnswers, Answers, Refuses, ReadCause, step_encoding, HasFits, IsStartEnd, IsRecordEnd, HasRoom};
 ghost use Rattle.call_records.specs.Parts.{EndsShort, Judges, TakesHead, EndsClosed};
 
 use crate::calls::{Call, call_of};
@@ -197,11 +197,11 @@ pub fn read_call<'b, S: Source>(
     buf: &'b mut RecordBuf,
 ) -> Result<Step<'b>, ReadEnd>
     requires { at ≤ 2 ^ 63 }
-    ensures taken { IfOk result (λ step. S.left input.old ≡ prepend_known (step_spelling step) (S.left input.new)) }
+    ensures taken { IfOk result (λ step. S.left input.old ≡ prepend_known (step_encoding step) (S.left input.new)) }
     ensures answers { WhereTold (λ old new. Answers at old new result) (S.left input.old) (S.left input.new) }
     ensures cause { ReadCause (S.faults input.old) (S.faults input.new) result }
     ensures room { HasRoom at result }
-    ensures size { IfOk result (λ step. length (step_spelling step) ≤ HEADER_BYTES + BODY_MAX) }
+    ensures size { IfOk result (λ step. length (step_encoding step) ≤ HEADER_BYTES + BODY_MAX) }
     ensures fits { IfOk result HasFits }
     ensures never { IfErr result IsRecordEnd }
 {

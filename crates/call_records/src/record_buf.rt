@@ -24,7 +24,7 @@ impl Model for RecordBuf {
 }
 
 impl RecordBuf {
-    /// A buffer of 16,777,280 bytes, all zero; Memory where that is wanting.
+    /// A buffer of 16,777,280 bytes, all zero; Memory where memory runs out.
     pub fn make(alloc: Global) -> Result<Self, Memory>
         ensures { IfOk result (λ buf. length buf ≡ BODY_MAX) }
     {

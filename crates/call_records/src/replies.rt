@@ -3,7 +3,7 @@ ghost use Rattle.std.specs.List.{flat_map};
 ghost use Rattle.gl_numbers.specs.Bytes.{le32};
 ghost use Rattle.wire_io.specs.Faults.{HasCause};
 ghost use Rattle.wire_io.specs.Sinks.{Sends};
-ghost use Rattle.call_records.specs.Replies.{reply_spelling};
+ghost use Rattle.call_records.specs.Replies.{reply_encoding};
 
 use gl_numbers::{Name, Words, three_words, two_words, word_bytes};
 use wire_io::{Failed, Sink, write_all};
@@ -44,7 +44,7 @@ pub struct Reply {
     pub value: Value,
 }
 
-/// Writes the words' bytes to the front of `into`, and answers how many they are.
+/// Writes the words' bytes to the prefix of `into`, and answers how many they are.
 fn fill_words(words: &[u32], into: &mut [u8; 64]) -> usize
     requires { length words.now ≤ 16 }
     ensures count { result ≡ 4 * length words.now }
@@ -96,10 +96,10 @@ fn write_active<O: Sink>(
 }
 
 /// Writes a reply's bytes: the code raised, the value's tag, and the value (this project's own format). Failed
-/// comes only where the sink's number of faults rose; then a front of the bytes was written.
+/// comes only where the sink's number of faults rose; then a prefix of the bytes was written.
 #[tactic(auto, using(crate::proofs::Sending::two_whole))]
 pub fn write_reply<O: Sink>(reply: &Reply, out: &mut O) -> Result<(), Failed>
-    ensures bytes { Sends (O.held out.old) (O.held out.new) result (reply_spelling reply.now) }
+    ensures bytes { Sends (O.held out.old) (O.held out.new) result (reply_encoding reply.now) }
     ensures cause { HasCause (O.faults out.old) (O.faults out.new) result }
 {
     let raised = reply.raised;

@@ -4,12 +4,12 @@ ghost use Rattle.gl_numbers.specs.Bytes.{le32};
 ghost use Rattle.call_records.specs.declared.replies.Value as Values;
 ghost use Rattle.call_records.specs.declared.replies.Value.TheVariants.{Active};
 ghost use Rattle.call_records.specs.declared.replies.Reply as Replied;
-ghost use Rattle.call_records.specs.Replies.{tag_of, content_of, reply_spelling, IsValue, IsReply};
+ghost use Rattle.call_records.specs.Replies.{tag_of, content_of, reply_encoding, IsValue, IsReply};
 
 use crate::replies::{Reply, TAG_ACTIVE, TAG_LIST, TAG_NOTHING, TAG_NUMBER, TAG_TEXT, Value};
 use gl_numbers::{NAME_BYTES, Name, WORDS, Words, u32_at};
 
-/// Fills the words from the bytes' front.
+/// Fills the words from the bytes' prefix.
 fn take_words(bytes: &[u8], into: &mut [u32])
     requires { 4 * length into.old ≤ length bytes.now }
     ensures count { length into.new ≡ length into.old }
@@ -69,7 +69,7 @@ fn name_at(bytes: &[u8]) -> Option<(Name, usize)>
 }
 
 /// The active attribute or uniform that begins the bytes, and the number of its bytes.
-#[tactic(auto, using(crate::proofs::ReplyFronts::two_front))]
+#[tactic(auto, using(crate::proofs::ReplyPrefixes::two_prefix))]
 fn active_at(bytes: &[u8]) -> Option<(Value, usize)>
     ensures value { IfSome result (λ r. (tag_of r.0 ≡ TAG_ACTIVE) × (bytes.now ≡ content_of r.0 ++ drop r.1 bytes.now)) }
     ensures size { IfSome result (λ r. r.1 ≡ length (content_of r.0)) }
@@ -120,11 +120,11 @@ fn value_at(tag: u32, bytes: &[u8]) -> Option<(Value, usize)>
 /// The reply that begins the bytes (this project's own format), and the number of its bytes. None exactly where
 /// no reply begins them: its tag is none of the five, it has more than 16 words or a text of more than 256
 /// bytes, or the bytes end before it does.
-#[tactic(auto, using(crate::proofs::ReplyFronts::two_front))]
+#[tactic(auto, using(crate::proofs::ReplyPrefixes::two_prefix))]
 pub fn read_reply(bytes: &[u8]) -> Option<(Reply, usize)>
-    ensures reply { IfSome result (λ r. bytes.now ≡ reply_spelling r.0 ++ drop r.1 bytes.now) }
-    ensures size { IfSome result (λ r. r.1 ≡ length (reply_spelling r.0)) }
-    ensures none { IsNone result → (reply : Replied.Reply) (rest : List ℕ) → IsReply reply → bytes.now ≡ reply_spelling reply ++ rest → ⊥ }
+    ensures reply { IfSome result (λ r. bytes.now ≡ reply_encoding r.0 ++ drop r.1 bytes.now) }
+    ensures size { IfSome result (λ r. r.1 ≡ length (reply_encoding r.0)) }
+    ensures none { IsNone result → (reply : Replied.Reply) (rest : List ℕ) → IsReply reply → bytes.now ≡ reply_encoding reply ++ rest → ⊥ }
 {
     if bytes.len() < 8 {
         return None;

@@ -228,7 +228,7 @@ fn a_failing_source_is_a_read_fault(rt: HostRuntime) -> Result<(), Fail> {
     Ok(())
 }
 
-/// Whether a call's bytes are written, and to a sink with less room the front of them that it holds.
+/// Whether a call's bytes are written, and to a sink with less room the prefix of them that it holds.
 fn writes(rt: &HostRuntime, call: &Call<'_>, bytes: &[u8]) -> Result<bool, AllocError>
     requires { Fits call.now }
 {
@@ -265,12 +265,12 @@ fn each_kind_of_call_is_written(rt: HostRuntime) -> Result<(), Fail> {
 }
 
 /// Whether a sink that fails at its second call holds these bytes of the call's.
-fn stops_after(rt: &HostRuntime, call: &Call<'_>, front: &[u8]) -> Result<bool, AllocError>
+fn stops_after(rt: &HostRuntime, call: &Call<'_>, prefix: &[u8]) -> Result<bool, AllocError>
     requires { Fits call.now }
 {
     let fail = [1u64].to_vec(rt.alloc())?;
     let mut out = MemSink::new(vec![in rt.alloc(); 0; 64]?, fail);
-    Ok(write_call(call, &mut out).is_err() && out.bytes() == front)
+    Ok(write_call(call, &mut out).is_err() && out.bytes() == prefix)
 }
 
 #[test]

@@ -2,7 +2,7 @@ ghost use Rattle.std.specs.Prelude.{◌≡◌, ◌++◌};
 ghost use Rattle.gl_numbers.specs.Bytes.{le32, le64};
 ghost use Rattle.wire_io.specs.Faults.{HasCause};
 ghost use Rattle.wire_io.specs.Sinks.{Sends};
-ghost use Rattle.call_records.specs.Records.{Fits, spelling};
+ghost use Rattle.call_records.specs.Records.{Fits, encoding};
 ghost use Rattle.call_records.specs.declared.calls.Call.TheVariants.{BufferData, BufferSubData};
 ghost use Rattle.call_records.specs.declared.calls.Fill.TheVariants.{Size, Bytes};
 
@@ -31,7 +31,7 @@ fn three_words_and_long(a: u32, b: u32, c: u32, d: i64) -> [u8; 20]
 /// The whole record of a bufferData with a size.
 #[tactic(auto, unfolding(gl_numbers::specs::Bytes::le32, gl_numbers::specs::Bytes::le64))]
 fn buffer_size(target: u32, usage: u32, size: i64) -> [u8; 24]
-    ensures { result ≡ spelling (BufferData target usage (Size size)) }
+    ensures { result ≡ encoding (BufferData target usage (Size size)) }
 {
     let [a0, a1, a2, a3] = BUFFER_SIZE.to_le_bytes();
     let [b0, b1, b2, b3] = 16u32.to_le_bytes();
@@ -48,7 +48,7 @@ fn buffer_size(target: u32, usage: u32, size: i64) -> [u8; 24]
 #[tactic(auto, unfolding(gl_numbers::specs::Bytes::le32))]
 fn buffer_data(target: u32, usage: u32, bytes: &[u8]) -> [u8; 16]
     requires { Fits (BufferData target usage (Bytes bytes)) }
-    ensures { result ++ bytes.now ≡ spelling (BufferData target usage (Bytes bytes.entry)) }
+    ensures { result ++ bytes.now ≡ encoding (BufferData target usage (Bytes bytes.entry)) }
 {
     four_words(BUFFER_DATA, 8 + bytes.len() as u32, target, usage)
 }
@@ -57,29 +57,29 @@ fn buffer_data(target: u32, usage: u32, bytes: &[u8]) -> [u8; 16]
 #[tactic(auto, unfolding(gl_numbers::specs::Bytes::le32, gl_numbers::specs::Bytes::le64))]
 fn buffer_sub_data(target: u32, offset: i64, bytes: &[u8]) -> [u8; 20]
     requires { Fits (BufferSubData target offset bytes) }
-    ensures { result ++ bytes.now ≡ spelling (BufferSubData target offset bytes.entry) }
+    ensures { result ++ bytes.now ≡ encoding (BufferSubData target offset bytes.entry) }
 {
     three_words_and_long(BUFFER_SUB_DATA, 12 + bytes.len() as u32, target, offset)
 }
 
-/// Writes the front of a record, and then its bytes, which are not copied.
+/// Writes the prefix of a record, and then its bytes, which are not copied.
 #[tactic(auto, using(wire_io::proofs::Known::sends_then, wire_io::proofs::Known::sends_stop))]
-fn write_with_bytes<O: Sink>(front: &[u8], bytes: &[u8], out: &mut O) -> Result<(), Failed>
-    ensures bytes { Sends (O.held out.old) (O.held out.new) result (front.now ++ bytes.now) }
+fn write_with_bytes<O: Sink>(prefix: &[u8], bytes: &[u8], out: &mut O) -> Result<(), Failed>
+    ensures bytes { Sends (O.held out.old) (O.held out.new) result (prefix.now ++ bytes.now) }
     ensures cause { HasCause (O.faults out.old) (O.faults out.new) result }
 {
-    let Ok(()) = write_all(front, out) else {
+    let Ok(()) = write_all(prefix, out) else {
         return Err(Failed);
     };
     write_all(bytes, out)
 }
 
 /// Writes a call's record, header and body (this project's own format). Failed comes only where the sink's
-/// number of faults rose; then a front of the record was written. The tail's bytes are not copied.
+/// number of faults rose; then a prefix of the record was written. The tail's bytes are not copied.
 #[tactic(auto, using(crate::proofs::Lengths::lengths))]
 pub fn write_call<O: Sink>(call: &Call<'_>, out: &mut O) -> Result<(), Failed>
     requires { Fits call.now }
-    ensures bytes { Sends (O.held out.old) (O.held out.new) result (spelling call.now) }
+    ensures bytes { Sends (O.held out.old) (O.held out.new) result (encoding call.now) }
     ensures cause { HasCause (O.faults out.old) (O.faults out.new) result }
 {
     match call {

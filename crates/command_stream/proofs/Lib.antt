@@ -1,5 +1,5 @@
 pub mod Allowed
-pub mod OneSpelling
+pub mod OneEncoding
 pub mod Pieces
 pub mod Decoding
 pub mod OneAnswer

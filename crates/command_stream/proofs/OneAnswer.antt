@@ -7,14 +7,14 @@ use Rattle.gl_numbers.proofs.Bytes.{Same, le32-one}
 use Rattle.command_stream.specs.declared.bad.Bad.{Bad}
 use Rattle.command_stream.specs.declared.bad.Bad.TheVariants as bad
 use Rattle.command_stream.specs.declared.command.Command.{Command}
-use Rattle.command_stream.specs.Commands.{command_spelling, stream_start}
+use Rattle.command_stream.specs.Commands.{command_encoding, stream_start}
 use Rattle.command_stream.specs.Operations.{number_of, operation_numbered, has_shape, allows}
 use Rattle.command_stream.specs.declared.operation.Operation.{Operation}
 use Rattle.command_stream.specs.declared.operation.Operation.TheVariants as op
 use Rattle.command_stream.specs.Plain.{Fits, plain}
 use Rattle.command_stream.specs.DecoderState.{DecoderState, IsPart, IsPartOfCommand, IsRefused, start_taken, HasBadStart}
 use Rattle.command_stream.specs.Decoding.{Takes, Feeds}
-use Rattle.command_stream.proofs.OneSpelling.{SameCommand, command_spelling-one, same_fronts}
+use Rattle.command_stream.proofs.OneEncoding.{SameCommand, command_encoding-one, same_fronts}
 use Rattle.command_stream.proofs.Pieces.{length-two, length-start, allows-within, number-fits}
 use Rattle.command_stream.proofs.Decoding.{state, part-not-whole, whole-not-refused, parts-one}
 
@@ -23,7 +23,7 @@ abbrev pub plain_answer : Result (ℕ × Option Command) Bad → Result (ℕ × 
 plain_answer (Ok (n, found)) = Ok (n, option_map plain found)
 plain_answer (Err e) = Err e
 
--- the bytes that a decoder has, with the piece behind them
+-- the bytes that a decoder has, with the piece after them
 abbrev with_piece : DecoderState → List ℕ → List ℕ
 with_piece old piece = start_taken old.started ++ (old.begun ++ piece)
 
@@ -35,16 +35,16 @@ part-is old piece new n t =
 
 -- those bytes where a command is whole
 whole-is : (old : DecoderState) (piece : List ℕ) (new : DecoderState) (n : ℕ) (c : Command) → Takes old piece new n (Some c)
-    → with_piece old piece ≡ stream_start ++ (command_spelling c ++ drop n piece)
+    → with_piece old piece ≡ stream_start ++ (command_encoding c ++ drop n piece)
 whole-is old piece new n c t =
     let start : List ℕ = start_taken old.started in
     let split : with_piece old piece ≡ (start ++ (old.begun ++ take n piece)) ++ drop n piece =
     ap (λ x. start ++ (old.begun ++ x)) (sym (take-append-drop n piece)) ∙ ap (λ x. start ++ x) (sym (append_assoc old.begun (take n piece) (drop n piece)))
     ∙ sym (append_assoc start (old.begun ++ take n piece) (drop n piece)) in
-    let bytes : start ++ (old.begun ++ take n piece) ≡ stream_start ++ command_spelling c =
-    t.bytes ∙ ap (λ b. start_taken b ++ (command_spelling c ++ new.begun)) t.ends.1 ∙ ap (λ x. stream_start ++ (command_spelling c ++ x)) t.ends.2
-    ∙ ap (λ x. stream_start ++ x) (append-nil (command_spelling c)) in
-    split ∙ ap (λ x. x ++ drop n piece) bytes ∙ append_assoc stream_start (command_spelling c) (drop n piece)
+    let bytes : start ++ (old.begun ++ take n piece) ≡ stream_start ++ command_encoding c =
+    t.bytes ∙ ap (λ b. start_taken b ++ (command_encoding c ++ new.begun)) t.ends.1 ∙ ap (λ x. stream_start ++ (command_encoding c ++ x)) t.ends.2
+    ∙ ap (λ x. stream_start ++ x) (append-nil (command_encoding c)) in
+    split ∙ ap (λ x. x ++ drop n piece) bytes ∙ append_assoc stream_start (command_encoding c) (drop n piece)
 
 -- a header of the table isn't refused
 shape-allowed : (operation : Operation) (len : ℕ) → allows operation len ≡ true → has_shape (number_of operation) len ≡ true
@@ -68,9 +68,9 @@ part-not-refused bytes (inr p) r =
     absurd cc
 
 -- no command is whole, or one is
-part-or-whole : (now : Bool) (x rest : List ℕ) (c : Command) → IsPart now x → Fits c → start_taken now ++ x ≡ stream_start ++ (command_spelling c ++ rest) → ⊥
+part-or-whole : (now : Bool) (x rest : List ℕ) (c : Command) → IsPart now x → Fits c → start_taken now ++ x ≡ stream_start ++ (command_encoding c ++ rest) → ⊥
 part-or-whole true x rest c part fits e = part-not-whole x rest c part fits (append_cancel_left stream_start _ _ e)
-part-or-whole false x rest c part fits e = omega (arith, part, length-start, ap length e, length-append stream_start (command_spelling c ++ rest))
+part-or-whole false x rest c part fits e = omega (arith, part, length-start, ap length e, length-append stream_start (command_encoding c ++ rest))
 
 -- no command is whole, or a header is refused
 part-or-refused : (now : Bool) (x bytes : List ℕ) → IsPart now x → IsRefused bytes → start_taken now ++ x ≡ stream_start ++ bytes → ⊥
@@ -108,7 +108,7 @@ feeds-one old p q piece (Ok (n, None)) (Ok (m, None)) f g =
     (ap (λ k. Ok (k, None)) count, same-state p q same.1 same.2 (f.counted ∙ ap (λ k. old.taken + k) count ∙ sym g.counted))
 feeds-one old p q piece (Ok (n, Some c)) (Ok (m, Some d)) f g =
     let same : SameCommand c d (drop n piece) (drop m piece) =
-    command_spelling-one c d (drop n piece) (drop m piece) f.ends.0 g.ends.0 (append_cancel_left stream_start _ _ (sym (whole-is old piece p n c f) ∙ whole-is old piece q m d g)) in
+    command_encoding-one c d (drop n piece) (drop m piece) f.ends.0 g.ends.0 (append_cancel_left stream_start _ _ (sym (whole-is old piece p n c f) ∙ whole-is old piece q m d g)) in
     let count : n ≡ m = omega (arith, f.within, g.within, ap length same.rest, length-drop n piece, length-drop m piece) in (
       ap (λ k. Ok (k, Some (plain c))) count ∙ ap (λ k. Ok (m, Some k)) same.command,
       same-state p q (f.ends.1 ∙ sym g.ends.1) (f.ends.2 ∙ sym g.ends.2) (f.counted ∙ ap (λ k. old.taken + k) count ∙ sym g.counted),
@@ -118,9 +118,9 @@ feeds-one old p q piece (Ok (n, None)) (Ok (m, Some d)) f g =
 feeds-one old p q piece (Ok (n, Some c)) (Ok (m, None)) f g =
     absurd (part-or-whole q.started q.begun (drop n piece) c g.rest f.ends.0 (sym (part-is old piece q m g) ∙ whole-is old piece p n c f))
 feeds-one old p q piece (Ok (n, None)) (Err bad.Version) f g = absurd (other-or-part old piece p.begun p.started g.1 f.rest (part-is old piece p n f))
-feeds-one old p q piece (Ok (n, Some c)) (Err bad.Version) f g = absurd (other-or-start old piece (command_spelling c ++ drop n piece) g.1 (whole-is old piece p n c f))
+feeds-one old p q piece (Ok (n, Some c)) (Err bad.Version) f g = absurd (other-or-start old piece (command_encoding c ++ drop n piece) g.1 (whole-is old piece p n c f))
 feeds-one old p q piece (Err bad.Version) (Ok (n, None)) f g = absurd (other-or-part old piece q.begun q.started f.1 g.rest (part-is old piece q n g))
-feeds-one old p q piece (Err bad.Version) (Ok (n, Some c)) f g = absurd (other-or-start old piece (command_spelling c ++ drop n piece) f.1 (whole-is old piece q n c g))
+feeds-one old p q piece (Err bad.Version) (Ok (n, Some c)) f g = absurd (other-or-start old piece (command_encoding c ++ drop n piece) f.1 (whole-is old piece q n c g))
 feeds-one old p q piece (Ok (n, None)) (Err (bad.Command at)) f g = absurd (part-or-refused p.started p.begun g.1.bytes f.rest g.1.refused (sym (part-is old piece p n f) ∙ g.1.are))
 feeds-one old p q piece (Err (bad.Command at)) (Ok (n, None)) f g = absurd (part-or-refused q.started q.begun f.1.bytes g.rest f.1.refused (sym (part-is old piece q n g) ∙ f.1.are))
 feeds-one old p q piece (Ok (n, Some c)) (Err (bad.Command at)) f g =

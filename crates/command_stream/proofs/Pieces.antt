@@ -1,4 +1,4 @@
--- Bytes that were begun, and a piece behind them.
+-- Bytes that were begun, and a piece after them.
 use Rattle.std.proofs.Common.{◌≡◌, ℕ, ◌+◌, ◌-◌, ◌<◌, ◌≤◌, ◌^◌, List, [], ◌++◌, length, take, drop, Some, None, Bool, true, false, refl, sym, ap, ◌∙◌, arith, append_assoc, length-append, length-drop, le_refl, lit<, inl, inr}
 use Rattle.std.proofs.lemmas.List.{take-append-drop, take-append-le, take_all, length-take-le}
 use Rattle.std.proofs.Math.Seq.{take-append_seam, take-append-add, take-add}
@@ -14,9 +14,9 @@ use Rattle.command_stream.specs.Taking.{Judges, IsWhole, TakesIn}
 use Rattle.command_stream.specs.declared.taking.Taken.{Taken}
 use Rattle.command_stream.specs.declared.taking.Taken.TheVariants.{OtherStart, OtherCommand, Part, Whole}
 
--- a list that begins another one is the front of it
-pub front_of : (h w x y : List ℕ) → length h ≤ length w → w ++ x ≡ h ++ y → take (length h) w ≡ h
-front_of h w x y short e = sym (take-append-le (length h) w x short) ∙ ap (take (length h)) e ∙ take-append_seam h y
+-- a list that begins another one is the prefix of it
+pub prefix_of : (h w x y : List ℕ) → length h ≤ length w → w ++ x ≡ h ++ y → take (length h) w ≡ h
+prefix_of h w x y short e = sym (take-append-le (length h) w x short) ∙ ap (take (length h)) e ∙ take-append_seam h y
 
 -- a list is its first bytes and the rest
 pub first-is : (n : ℕ) (xs first : List ℕ) → first ≡ take n xs → xs ≡ first ++ drop n xs
@@ -27,8 +27,8 @@ pub first-begun : (begun piece first : List ℕ) → 8 ≤ length begun → firs
 first-begun begun piece first long e = first-is 8 (begun ++ piece) first (e ∙ sym (take-append-le 8 begun piece long))
 
 -- the first bytes where some of them were begun
-take-behind : (n : ℕ) (begun piece : List ℕ) → length begun ≤ n → take n (begun ++ piece) ≡ begun ++ take (n - length begun) piece
-take-behind n begun piece short =
+take-after : (n : ℕ) (begun piece : List ℕ) → length begun ≤ n → take n (begun ++ piece) ≡ begun ++ take (n - length begun) piece
+take-after n begun piece short =
     let sum : n ≡ length begun + (n - length begun) = omega (arith, short) in
     ap (λ m. take m (begun ++ piece)) sum ∙ take-append-add begun piece (n - length begun)
 
@@ -36,18 +36,18 @@ take-behind n begun piece short =
 pub first-both : (begun piece mid first : List ℕ) → length begun ≤ 8 → 8 - length begun ≤ length piece → length first ≡ 8 → take (0 + length begun) mid ≡ begun
     → take (length begun + length (take (8 - length begun) piece)) first ≡ take (length begun) mid ++ take (8 - length begun) piece
     → begun ++ piece ≡ first ++ drop 8 (begun ++ piece)
-first-both begun piece mid first short more size front whole =
+first-both begun piece mid first short more size prefix whole =
     let zero : length begun ≡ 0 + length begun = omega arith in
     let eight : length begun + length (take (8 - length begun) piece) ≡ 8 = omega (arith, short, more, length-take-le (8 - length begun) piece more) in
     let all : take 8 first ≡ first = ap (λ n. take n first) (sym size) ∙ take_all (length first) first (le_refl (length first)) in
-    let parts : take 8 first ≡ begun ++ take (8 - length begun) piece = ap (λ n. take n first) (sym eight) ∙ whole ∙ ap (λ t. t ++ take (8 - length begun) piece) (ap (λ n. take n mid) zero ∙ front) in
-    first-is 8 (begun ++ piece) first (sym all ∙ parts ∙ sym (take-behind 8 begun piece short))
+    let parts : take 8 first ≡ begun ++ take (8 - length begun) piece = ap (λ n. take n first) (sym eight) ∙ whole ∙ ap (λ t. t ++ take (8 - length begun) piece) (ap (λ n. take n mid) zero ∙ prefix) in
+    first-is 8 (begun ++ piece) first (sym all ∙ parts ∙ sym (take-after 8 begun piece short))
 
 -- the end of the stream's header
 pub start-ends : (begun piece first : List ℕ) → length begun ≤ 8 → length first ≡ 8 → begun ++ piece ≡ first ++ drop 8 (begun ++ piece)
     → begun ++ take (8 - length begun) piece ≡ first
 start-ends begun piece first short size e =
-    sym (take-behind 8 begun piece short) ∙ ap (λ n. take n (begun ++ piece)) (sym size) ∙ ap (take (length first)) e ∙ take-append_seam first (drop 8 (begun ++ piece))
+    sym (take-after 8 begun piece short) ∙ ap (λ n. take n (begun ++ piece)) (sym size) ∙ ap (take (length first)) e ∙ take-append_seam first (drop 8 (begun ++ piece))
 
 -- a header that is refused
 pub bad-command : (begun piece first : List ℕ) → begun ++ piece ≡ first ++ drop 8 (begun ++ piece) → Judges first None → HasBadCommand true begun piece
@@ -94,7 +94,7 @@ allows-within op.BindBuffer len a = grind (arith, a)
 allows-within op.BufferSize len a = grind (arith, a)
 allows-within op.BufferBytes len a = grind (arith, a)
 
--- two words at the front of a list are read in one way
+-- two words at the prefix of a list are read in one way
 words-one : (m n k l : ℕ) (x y : List ℕ) → m < 2 ^ 32 → n < 2 ^ 32 → k < 2 ^ 32 → l < 2 ^ 32
     → le32 m ++ (le32 k ++ x) ≡ le32 n ++ (le32 l ++ y) → k ≡ l
 words-one m n k l x y m_fits n_fits k_fits l_fits e =
@@ -123,45 +123,45 @@ part-within begun piece first operation len e j (inr p) =
 pub whole : (operation : Operation) (len more : ℕ) (begun piece first bytes : List ℕ) → begun ++ piece ≡ first ++ drop 8 (begun ++ piece)
     → Judges first (Some (operation, len)) → bytes ≡ begun ++ take more piece → length bytes ≡ 8 + len → IsWhole operation bytes
 whole operation len more begun piece first bytes e j are size =
-    let behind : bytes ++ drop more piece ≡ begun ++ piece =
+    let after : bytes ++ drop more piece ≡ begun ++ piece =
     ap (λ t. t ++ drop more piece) are ∙ append_assoc begun (take more piece) (drop more piece) ∙ ap (λ t. begun ++ t) (take-append-drop more piece) in
     let eight : length first ≡ 8 = ap length j.0 ∙ length-header (number_of operation) len in
-    let front : take 8 bytes ≡ first = ap (λ n. take n bytes) (sym eight)
-    ∙ front_of first bytes (drop more piece) (drop 8 (begun ++ piece)) (omega (arith, eight, size)) (behind ∙ e) in
+    let prefix : take 8 bytes ≡ first = ap (λ n. take n bytes) (sym eight)
+    ∙ prefix_of first bytes (drop more piece) (drop 8 (begun ++ piece)) (omega (arith, eight, size)) (after ∙ e) in
     let left : length (drop 8 bytes) ≡ len = length-drop 8 bytes ∙ omega (arith, size) in
     record {
       size = omega (arith, size);
-      are = first-is 8 bytes first (sym front) ∙ ap (λ t. t ++ drop 8 bytes) j.0 ∙ append_assoc (le32 (number_of operation)) (le32 len) (drop 8 bytes)
+      are = first-is 8 bytes first (sym prefix) ∙ ap (λ t. t ++ drop 8 bytes) j.0 ∙ append_assoc (le32 (number_of operation)) (le32 len) (drop 8 bytes)
           ∙ ap (λ n. le32 (number_of operation) ++ (le32 n ++ drop 8 bytes)) (sym left);
       allowed = ap (allows operation) left ∙ j.1;
     }
 
--- what stands behind the stream's header
-pub behind-start : (begun piece : List ℕ) (n : ℕ) → begun ++ take n piece ≡ stream_start → begun ++ piece ≡ stream_start ++ drop n piece
-behind-start begun piece n e =
+-- what stands after the stream's header
+pub after-start : (begun piece : List ℕ) (n : ℕ) → begun ++ take n piece ≡ stream_start → begun ++ piece ≡ stream_start ++ drop n piece
+after-start begun piece n e =
     ap (λ t. begun ++ t) (sym (take-append-drop n piece)) ∙ sym (append_assoc begun (take n piece) (drop n piece)) ∙ ap (λ t. t ++ drop n piece) e
 
--- what is taken behind the stream's header
-pub taken-behind-start : (begun piece : List ℕ) (n more : ℕ) → begun ++ take n piece ≡ stream_start → begun ++ take (n + more) piece ≡ stream_start ++ take more (drop n piece)
-taken-behind-start begun piece n more e =
+-- what is taken after the stream's header
+pub taken-after-start : (begun piece : List ℕ) (n more : ℕ) → begun ++ take n piece ≡ stream_start → begun ++ take (n + more) piece ≡ stream_start ++ take more (drop n piece)
+taken-after-start begun piece n more e =
     ap (λ t. begun ++ t) (take-add n more piece) ∙ sym (append_assoc begun (take n piece) (take more (drop n piece))) ∙ ap (λ t. t ++ take more (drop n piece)) e
 
--- what isn't a whole command behind the stream's header
-pub behind : (piece old new : List ℕ) (held n : ℕ) (t : Taken) → take held old ++ take n piece ≡ stream_start
+-- what isn't a whole command after the stream's header
+pub after : (piece old new : List ℕ) (held n : ℕ) (t : Taken) → take held old ++ take n piece ≡ stream_start
     → TakesIn true old 0 (drop n piece) new t → ((operation : Operation) (more size : ℕ) → t ≡ Whole operation more size → ⊥) → TakesIn false old held piece new t
-behind piece old new held n OtherStart e t other =
+after piece old new held n OtherStart e t other =
     let early : true ≡ false = t.1.early in
     absurd cc
-behind piece old new held n OtherCommand e t other = (
+after piece old new held n OtherCommand e t other = (
   t.0,
   record {
     bytes = t.1.bytes;
-    are = behind-start (take held old) piece n e ∙ t.1.are;
+    are = after-start (take held old) piece n e ∙ t.1.are;
     refused = t.1.refused;
   },
 )
-behind piece old new held n (Part now_started now_held) e t other = (t.0, t.1, behind-start (take held old) piece n e ∙ t.2, t.3)
-behind piece old new held n (Whole operation more size) e t other = absurd (other operation more size refl)
+after piece old new held n (Part now_started now_held) e t other = (t.0, t.1, after-start (take held old) piece n e ∙ t.2, t.3)
+after piece old new held n (Whole operation more size) e t other = absurd (other operation more size refl)
 
 -- a list that was written over by one of its length
 pub written-over : (n : ℕ) (old new : List ℕ) → n ≡ length new → take n (new ++ drop (length new) old) ≡ new

@@ -30,8 +30,8 @@ body_of (BufferSize target usage size) = le32 target ++ (le32 usage ++ le32 size
 body_of (BufferBytes target offset tail) = le32 target ++ (le32 offset ++ tail.now)
 
 -- the bytes of a command
-abbrev pub command_spelling : Command → List ℕ
-command_spelling c = le32 (op_of c) ++ (le32 (length (body_of c)) ++ body_of c)
+abbrev pub command_encoding : Command → List ℕ
+command_encoding c = le32 (op_of c) ++ (le32 (length (body_of c)) ++ body_of c)
 
 -- the body is no longer than a command's may be
 abbrev pub Allowed : Command → Type 0
@@ -43,4 +43,4 @@ stream_start = codes "ESCS" ++ le32 STREAM_VERSION
 
 -- the bytes of a list of commands
 abbrev pub stream : List Command → List ℕ
-stream commands = stream_start ++ flat_map command_spelling commands
+stream commands = stream_start ++ flat_map command_encoding commands

@@ -4,14 +4,14 @@ use Rattle.std.specs.List.{All, flat_map}
 use Rattle.command_stream.specs.declared.command.Command.{Command}
 use Rattle.command_stream.specs.declared.bad.Bad.{Bad}
 use Rattle.command_stream.specs.declared.bad.Bad.TheVariants as bad
-use Rattle.command_stream.specs.Commands.{command_spelling}
+use Rattle.command_stream.specs.Commands.{command_encoding}
 use Rattle.command_stream.specs.Plain.{Fits}
 use Rattle.command_stream.specs.DecoderState.{DecoderState, IsPart, start_taken, HasBadStart, HasBadCommand, command_at}
 
 -- the bytes of a command that was found, if any
-abbrev pub found_spelling : Option Command → List ℕ
-found_spelling None = []
-found_spelling (Some c) = command_spelling c
+abbrev pub found_encoding : Option Command → List ℕ
+found_encoding None = []
+found_encoding (Some c) = command_encoding c
 
 -- how far a piece is taken: all of it, or up to the end of the first whole command
 abbrev pub EndsAt : List ℕ → ℕ → DecoderState → Option Command → Type 0
@@ -21,7 +21,7 @@ EndsAt piece n new (Some c) = Fits c × (new.started ≡ true) × (new.begun ≡
 -- this many bytes of a piece are taken, and with them this command, if any
 pub record Takes (old : DecoderState) (piece : List ℕ) (new : DecoderState) (n : ℕ) (found : Option Command) : Type 0 where
   pub within : n ≤ length piece
-  pub bytes : start_taken old.started ++ (old.begun ++ take n piece) ≡ start_taken new.started ++ (found_spelling found ++ new.begun)
+  pub bytes : start_taken old.started ++ (old.begun ++ take n piece) ≡ start_taken new.started ++ (found_encoding found ++ new.begun)
   pub rest : IsPart new.started new.begun
   pub ends : EndsAt piece n new found
   pub counted : new.taken ≡ old.taken + n
@@ -34,7 +34,7 @@ Feeds old piece new (Err (bad.Command at)) = (new ≡ old) × HasBadCommand old.
 
 -- after these bytes of a stream a decoder has given these commands, and is this one
 pub record Decoded (all : List ℕ) (commands : List Command) (state : DecoderState) : Type 0 where
-  pub bytes : all ≡ start_taken state.started ++ (flat_map command_spelling commands ++ state.begun)
+  pub bytes : all ≡ start_taken state.started ++ (flat_map command_encoding commands ++ state.begun)
   pub each : All Fits commands
   pub early : state.started ≡ false → commands ≡ []
   pub rest : IsPart state.started state.begun

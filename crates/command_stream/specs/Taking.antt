@@ -1,4 +1,4 @@
--- What the parts of the decoder do: a header that is judged, and bytes that are taken behind those that are held.
+-- What the parts of the decoder do: a header that is judged, and bytes that are taken after those that are held.
 use Rattle.std.specs.Prelude.{◌≡◌, ℕ, ◌+◌, ◌<◌, ◌≤◌, ◌^◌, Bool, true, false, List, ◌++◌, length, take, drop, Option, None, Some}
 use Rattle.gl_numbers.specs.Bytes.{le32}
 use Rattle.command_stream.specs.declared.operation.TheConstants.{START_BYTES, HEADER_BYTES}
@@ -11,7 +11,7 @@ use Rattle.command_stream.specs.Operations.{number_of, allows, has_shape}
 use Rattle.command_stream.specs.Commands.{stream_start}
 use Rattle.command_stream.specs.DecoderState.{IsPart, start_taken, HasBadStart, HasBadCommand}
 
--- the first eight bytes of two lists one behind the other, if there are so many
+-- the first eight bytes of two lists one after the other, if there are so many
 abbrev pub AreFirst : List ℕ → List ℕ → Option (List ℕ) → Type 0
 AreFirst begun piece None = length begun + length piece < HEADER_BYTES
 AreFirst begun piece (Some first) = (begun ++ piece ≡ first ++ drop HEADER_BYTES (begun ++ piece)) × (HEADER_BYTES ≤ length begun + length piece)
@@ -27,7 +27,7 @@ pub record IsWhole (operation : Operation) (bytes : List ℕ) : Type 0 where
   pub are : bytes ≡ le32 (number_of operation) ++ (le32 (length (drop HEADER_BYTES bytes)) ++ drop HEADER_BYTES bytes)
   pub allowed : allows operation (length (drop HEADER_BYTES bytes)) ≡ true
 
--- what is taken of a piece behind the bytes that are held, whose first ones were begun
+-- what is taken of a piece after the bytes that are held, whose first ones were begun
 abbrev pub TakesIn : Bool → List ℕ → ℕ → List ℕ → List ℕ → Takens.Taken → Type 0
 TakesIn started old held piece new OtherStart = (new ≡ old) × HasBadStart started (take held old) piece
 TakesIn started old held piece new OtherCommand = (new ≡ old) × HasBadCommand started (take held old) piece

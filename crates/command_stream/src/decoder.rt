@@ -36,7 +36,7 @@ impl Model for Decoder {
 }
 
 impl Decoder {
-    /// A decoder that has taken nothing, with a buffer for the longest command; Memory where that is wanting.
+    /// A decoder that has taken nothing, with a buffer for the longest command; Memory where memory runs out.
     pub fn new(alloc: Global) -> Result<Self, Memory>
         ensures { IfOk result (λ decoder. decoder ≡ record { started = false; begun = []; taken = 0 }) }
     {

@@ -128,9 +128,9 @@ fn it_is_idle_between_two_commands(rt: HostRuntime) -> Result<(), Fail> {
         (74, 4, true),
     ] {
         let mut decoder = Decoder::new(rt.alloc())?;
-        let front = STREAM.get(..taken).ok_or("front")?;
+        let prefix = STREAM.get(..taken).ok_or("prefix")?;
         assert_eq!(rt;
-            count_equal(&mut decoder, front, 3, &COMMANDS),
+            count_equal(&mut decoder, prefix, 3, &COMMANDS),
             Ok(found),
             "after {taken}"
         );
@@ -163,9 +163,9 @@ fn each_refused_header_is_told_at_its_offset(rt: HostRuntime) -> Result<(), Fail
     ];
     for (header, at, bad) in cases {
         let mut decoder = Decoder::new(rt.alloc())?;
-        let front = STREAM.get(..at).ok_or("front")?;
+        let prefix = STREAM.get(..at).ok_or("prefix")?;
         assert!(rt;
-            count_equal(&mut decoder, front, 64, &COMMANDS).is_ok(),
+            count_equal(&mut decoder, prefix, 64, &COMMANDS).is_ok(),
             "{bad:?}"
         );
         assert!(rt;

@@ -1,13 +1,13 @@
 //! The driver's stream, this project's own format: a header, and then commands for an OpenGL ES 2.0 driver, each
 //! an operation, the length of its body and the body, which is words and, for some commands, bytes at the end.
-//! Every word is little-endian. The contract in one sentence: what is written is a command's spelling, or after
-//! a fault a front of it, and no two lists of commands have the same bytes.
+//! Every word is little-endian. The contract in one sentence: what is written is a command's encoding, or after
+//! a fault a prefix of it, and no two lists of commands have the same bytes.
 #![tactic(auto)]
 
 mod bad;
 mod command;
 mod decoder;
-mod fronts;
+mod prefixes;
 mod operation;
 mod taking;
 mod write;

@@ -2,7 +2,7 @@ ghost use Rattle.std.specs.Prelude.{◌≡◌, ◌+◌, ◌<◌, ◌≤◌, ◌+
 ghost use Rattle.command_stream.specs.DecoderState.{IsPart};
 ghost use Rattle.command_stream.specs.Taking.{AreFirst, Judges, StartsIn, TakesIn};
 
-use crate::fronts::start;
+use crate::prefixes::start;
 use crate::operation::{HEADER_BYTES, Operation, START_BYTES};
 use gl_numbers::u32_at;
 
@@ -34,7 +34,7 @@ pub enum Taken {
     OtherCommand,
 }
 
-/// Copies the piece behind the first `held` bytes.
+/// Copies the piece after the first `held` bytes.
 fn hold(bytes: &mut [u8], held: usize, piece: &[u8])
     requires { held + length piece.now ≤ length bytes.old }
     ensures size { length bytes.new ≡ length bytes.old }
@@ -43,7 +43,7 @@ fn hold(bytes: &mut [u8], held: usize, piece: &[u8])
     bytes[held..held + piece.len()].copy_from_slice(piece);
 }
 
-/// The first eight bytes of what was begun and the piece behind it; None where there are fewer.
+/// The first eight bytes of what was begun and the piece after it; None where there are fewer.
 fn first_eight(begun: &[u8], piece: &[u8]) -> Option<[u8; 8]>
     ensures { AreFirst begun.now piece.now result }
 {
@@ -88,7 +88,7 @@ fn look_for_start(begun: &[u8], piece: &[u8]) -> Start
     }
 }
 
-/// Takes the piece behind the first `held` bytes of a command, up to the command's end.
+/// Takes the piece after the first `held` bytes of a command, up to the command's end.
 fn take_command(bytes: &mut [u8], held: usize, piece: &[u8]) -> Taken
     requires room { length bytes.old ≡ COMMAND_MAX }
     requires within { held ≤ COMMAND_MAX }
@@ -112,7 +112,7 @@ fn take_command(bytes: &mut [u8], held: usize, piece: &[u8]) -> Taken
     Taken::Whole(operation, more, size)
 }
 
-/// Takes the piece behind the first `held` bytes of the stream's header or else of a command, up to the end of
+/// Takes the piece after the first `held` bytes of the stream's header or else of a command, up to the end of
 /// the first whole command.
 pub fn take_in(bytes: &mut [u8], started: bool, held: usize, piece: &[u8]) -> Taken
     requires room { length bytes.old ≡ COMMAND_MAX }

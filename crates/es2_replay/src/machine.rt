@@ -245,7 +245,7 @@ impl Machine {
         }
     }
 
-    /// What a command does that nothing refuses, or want of memory with nothing changed.
+    /// What a command does that nothing refuses, or out of memory with nothing changed.
     fn act(&mut self, c: &Command<'_>) -> Result<(), Memory>
         requires { refusal (state_of self.old) c.now ≡ None }
         ensures acts { Acts (state_of self.old) c.now (state_of self.new) result }

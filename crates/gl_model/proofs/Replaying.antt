@@ -62,7 +62,7 @@ resumed-none made g g1 commands same none =
     ap (λ (s : DriverState). replay s commands) same
     ∙ (λ i. record { state = (replay g1 commands).state; shots = none i ++ (replay g1 commands).shots; count = count i; fault = (replay g1 commands).fault })
 
--- one more command in front of others, by its fault
+-- one more command in prefix of others, by its fault
 pub append-judged : (g g1 : DriverState) (made : List Shot) (command : Command) (commands second : List Command) (fault : Option Fault)
     → ((more : List Shot) → replay (effect g command) commands ≡ clean g1 more commands → replay (effect g command) (commands ++ second) ≡ resumed more commands (replay g1 second))
     → option_map_or (λ f. ended g (Some f)) fault (after (shot g command) (replay (effect g command) commands)) ≡ clean g1 made (command ∷ commands)
@@ -84,19 +84,19 @@ replay-append g g1 made (command ∷ commands) second e =
     append-judged g g1 made command commands second (fault_of g command)
     (λ more clear. replay-append (effect g command) g1 more commands second clear) e
 
--- where one more command in front of others has no fault, neither do the others after it
-pub front-judged : (g : DriverState) (first : Option Shot) (some all : Replayed) (fault : Option Fault)
+-- where one more command in prefix of others has no fault, neither do the others after it
+pub prefix-judged : (g : DriverState) (first : Option Shot) (some all : Replayed) (fault : Option Fault)
     → (option_map_or (λ f. ended g (Some f)) fault (after first all)).fault ≡ None → (all.fault ≡ None → some.fault ≡ None)
     → (option_map_or (λ f. ended g (Some f)) fault (after first some)).fault ≡ None
-front-judged g first some all (Some f) e shorter = absurd cc
-front-judged g first some all None e shorter = shorter e
+prefix-judged g first some all (Some f) e shorter = absurd cc
+prefix-judged g first some all None e shorter = shorter e
 
 -- the first commands of some that have no fault have none
-pub replay-front : (g : DriverState) (commands : List Command) (k : ℕ) → (replay g commands).fault ≡ None → (replay g (take k commands)).fault ≡ None
+pub replay-prefix : (g : DriverState) (commands : List Command) (k : ℕ) → (replay g commands).fault ≡ None → (replay g (take k commands)).fault ≡ None
 unfolding replay
-replay-front g [] zero e = refl
-replay-front g [] (suc k) e = refl
-replay-front g (command ∷ commands) zero e = refl
-replay-front g (command ∷ commands) (suc k) e =
-    front-judged g (shot g command) (replay (effect g command) (take k commands)) (replay (effect g command) commands) (fault_of g command) e
-    (replay-front (effect g command) commands k)
+replay-prefix g [] zero e = refl
+replay-prefix g [] (suc k) e = refl
+replay-prefix g (command ∷ commands) zero e = refl
+replay-prefix g (command ∷ commands) (suc k) e =
+    prefix-judged g (shot g command) (replay (effect g command) (take k commands)) (replay (effect g command) commands) (fault_of g command) e
+    (replay-prefix (effect g command) commands k)

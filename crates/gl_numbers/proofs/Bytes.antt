@@ -1,4 +1,4 @@
--- Words at the front of a list are read in one way.
+-- Words at the prefix of a list are read in one way.
 use Rattle.std.proofs.Common.{◌≡◌, ℕ, ℤ, ◌<◌, ◌^◌, List, ◌++◌, length, take, drop, refl, sym, ap, ◌∙◌}
 use Rattle.std.proofs.lemmas.Nat.{from_le_bytes-to_le_bytes_4}
 use Rattle.std.specs.Int.{from_le_bytes, to_le_bytes, w32}
@@ -12,7 +12,7 @@ pub length-le64 : (z : ℤ) → length (le64 z) ≡ 8
 unfolding le64
 length-le64 z = refl
 
--- the word at the front, and what follows it
+-- the word at the prefix, and what follows it
 pub record Same (a b : ℕ) (x y : List ℕ) : Type 0 where
   pub word : a ≡ b
   pub rest : x ≡ y

@@ -1,4 +1,9 @@
+pub mod Limits
 pub mod Errors
+pub mod Refusals
 pub mod BufferWords
+pub mod BufferBindings
+pub mod BufferRules
+pub mod ByHandle
 pub mod ShortLists
 pub mod Bytes

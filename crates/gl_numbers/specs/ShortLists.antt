@@ -15,17 +15,17 @@ abbrev pub padded : ℕ → List ℕ → List ℕ
 padded capacity xs = xs ++ replicate (capacity - length xs) 0
 
 -- the list gives back the array and the length
-pub padded-of_front : (capacity len : ℕ) (held : List ℕ) → IsPadded capacity len held
+pub padded-of_prefix : (capacity len : ℕ) (held : List ℕ) → IsPadded capacity len held
     → ◌≡◌ {A = List ℕ × ℕ} (padded capacity (take len held), length (take len held)) (held, len)
-padded-of_front capacity len held p =
+padded-of_prefix capacity len held p =
     let within : len ≤ length held = omega (arith, p.whole, p.within) in
-    let front : length (take len held) ≡ len = length-take-le len held within in
-    rw front (rw (← p.rest) (rw take-append-drop))
+    let prefix : length (take len held) ≡ len = length-take-le len held within in
+    rw prefix (rw (← p.rest) (rw take-append-drop))
 
--- a list written to the front of zeros is padded
-pub IsPadded-front : (capacity : ℕ) (xs ys : List ℕ) → ys ≡ xs → length xs ≤ capacity
+-- a list written to the prefix of zeros is padded
+pub IsPadded-prefix : (capacity : ℕ) (xs ys : List ℕ) → ys ≡ xs → length xs ≤ capacity
     → IsPadded capacity (length xs) (ys ++ drop (length xs) (replicate capacity 0))
-IsPadded-front capacity xs ys same within =
+IsPadded-prefix capacity xs ys same within =
     let zeros : List ℕ = replicate capacity 0 in
     rw same
     (record {

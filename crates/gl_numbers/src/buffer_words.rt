@@ -1,5 +1,5 @@
 ghost use Rattle.std.specs.Prelude.{◌≡◌};
-ghost use Rattle.gl_numbers.specs.BufferWords.{buffer_target_of, usage_of, usage_word};
+ghost use Rattle.gl_numbers.specs.BufferWords.{buffer_target_of, is_buffer_parameter, usage_of, usage_word};
 
 /// The target of vertex data.
 pub const ARRAY_BUFFER: u32 = 0x8892;
@@ -25,6 +25,13 @@ pub enum BufferTarget {
     Array,
     /// ELEMENT_ARRAY_BUFFER
     ElementArray,
+}
+
+/// Whether a buffer has a parameter of this word: BUFFER_SIZE or BUFFER_USAGE (OpenGL ES 2.0 section 6.1.3).
+pub fn is_buffer_parameter(n: u32) -> bool
+    ensures { result ≡ is_buffer_parameter n }
+{
+    n == BUFFER_SIZE || n == BUFFER_USAGE
 }
 
 impl BufferTarget {

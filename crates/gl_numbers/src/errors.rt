@@ -14,7 +14,7 @@ pub const OUT_OF_MEMORY: u32 = 0x0505;
 /// The bound framebuffer is not complete.
 pub const INVALID_FRAMEBUFFER_OPERATION: u32 = 0x0506;
 
-/// Want of memory: an allocation was refused. It is merged with no other error.
+/// out of memory: an allocation was refused. It is merged with no other error.
 #[derive(Clone, Copy, Debug, PartialEq, Eq)]
 pub struct Memory;
 

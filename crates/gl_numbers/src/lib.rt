@@ -4,6 +4,7 @@
 //! `Words` are seen as lists.
 #![tactic(auto)]
 
+mod buffer_bindings;
 mod buffer_words;
 mod errors;
 mod kinds;
@@ -11,9 +12,10 @@ mod limits;
 mod short_lists;
 mod words_in_bytes;
 
+pub use buffer_bindings::BufferBindings;
 pub use buffer_words::{
     ARRAY_BUFFER, BUFFER_SIZE, BUFFER_USAGE, BufferTarget, DYNAMIC_DRAW, ELEMENT_ARRAY_BUFFER,
-    STATIC_DRAW, STREAM_DRAW, Usage,
+    STATIC_DRAW, STREAM_DRAW, Usage, is_buffer_parameter,
 };
 pub use errors::{
     GlError, INVALID_ENUM, INVALID_FRAMEBUFFER_OPERATION, INVALID_OPERATION, INVALID_VALUE, Memory,

@@ -19,7 +19,7 @@ impl Model for Name {
 
     ghost Value = { List ℕ };
 
-    ghost use Rattle.gl_numbers.specs.ShortLists.{IsPadded, padded, padded-of_front};
+    ghost use Rattle.gl_numbers.specs.ShortLists.{IsPadded, padded, padded-of_prefix};
     ghost use Rattle.gl_numbers.specs.declared.short_lists.Name.TheInside.{Inside};
     ghost use Rattle.std.proofs.Common.{ap};
 
@@ -29,7 +29,7 @@ impl Model for Name {
 
     ghost inverse = { λ d. record { bytes = padded 256 d; len = length d } };
 
-    ghost inverse_ok = { λ a h. ap (λ p. let inside : Inside = record { bytes = p.0; len = p.1 } in inside) (padded-of_front 256 a.len a.bytes h) };
+    ghost inverse_ok = { λ a h. ap (λ p. let inside : Inside = record { bytes = p.0; len = p.1 } in inside) (padded-of_prefix 256 a.len a.bytes h) };
 }
 
 impl Name {
@@ -70,7 +70,7 @@ impl Model for Words {
 
     ghost Value = { List ℕ };
 
-    ghost use Rattle.gl_numbers.specs.ShortLists.{IsPadded, padded, padded-of_front};
+    ghost use Rattle.gl_numbers.specs.ShortLists.{IsPadded, padded, padded-of_prefix};
     ghost use Rattle.gl_numbers.specs.declared.short_lists.Words.TheInside.{Inside};
     ghost use Rattle.std.proofs.Common.{ap};
 
@@ -80,7 +80,7 @@ impl Model for Words {
 
     ghost inverse = { λ d. record { words = padded 16 d; len = length d } };
 
-    ghost inverse_ok = { λ a h. ap (λ p. let inside : Inside = record { words = p.0; len = p.1 } in inside) (padded-of_front 16 a.len a.words h) };
+    ghost inverse_ok = { λ a h. ap (λ p. let inside : Inside = record { words = p.0; len = p.1 } in inside) (padded-of_prefix 16 a.len a.words h) };
 }
 
 impl Words {

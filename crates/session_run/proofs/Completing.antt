@@ -11,8 +11,8 @@ use Rattle.call_records.specs.declared.calls.Call.{Call}
 use Rattle.call_records.specs.declared.reading.Step.{Step}
 use Rattle.call_records.specs.declared.reading.ReadEnd.{ReadEnd}
 use Rattle.call_records.specs.declared.reading.ReadEnd.TheVariants.{ReadFault}
-use Rattle.call_records.specs.Records.{spelling, session, session_start, closing_record, Fits}
-use Rattle.call_records.proofs.OneSpelling.{answered, next_rest, started}
+use Rattle.call_records.specs.Records.{encoding, session, session_start, closing_record, Fits}
+use Rattle.call_records.proofs.OneEncoding.{answered, next_rest, started}
 use Rattle.session_run.specs.PageRun.{Taken}
 use Rattle.session_run.specs.Sessions.{records_of}
 use Rattle.session_run.specs.Outcomes.{RefusesReading}
@@ -22,14 +22,14 @@ use Rattle.session_run.proofs.Telling.{both}
 pub record RestOf (rest : List ℕ) : Type 0 where
   pub todo : List Call
   pub fits : All Fits todo
-  pub left : rest ≡ flat_map spelling todo ++ closing_record
+  pub left : rest ≡ flat_map encoding todo ++ closing_record
 
 pub rest_of : (taken : List Taken) (todo : List Call) (rest : List ℕ) → All (λ t. Fits t.call) taken → All Fits todo
-    → records_of taken ++ rest ≡ flat_map spelling todo ++ closing_record → RestOf rest
+    → records_of taken ++ rest ≡ flat_map encoding todo ++ closing_record → RestOf rest
 rest_of [] todo rest took fits e = record { todo = todo; fits = fits; left = e }
 rest_of (t ∷ taken) todo rest took fits e =
-    let next = next_rest todo 0 (flat_map spelling todo ++ closing_record) (records_of taken ++ rest) t.call fits (took 0 t (omega arith)) refl
-    (sym e ∙ append_assoc (spelling t.call) (records_of taken) rest) in
+    let next = next_rest todo 0 (flat_map encoding todo ++ closing_record) (records_of taken ++ rest) t.call fits (took 0 t (omega arith)) refl
+    (sym e ∙ append_assoc (encoding t.call) (records_of taken) rest) in
     rest_of taken next.rest rest (λ k d within. took (suc k) d (omega arith)) next.fits next.left
 
 -- a session's header has two words
@@ -47,7 +47,7 @@ pub complete : (calls : List Call) (old new : List ℕ) (end : ReadEnd) → All 
     → RefusesReading end old new → end ≡ ReadFault
 complete calls old new end fits e short (inl refused) = only_fault {T = Unit {0}} end (started calls old new (Err end) e refused).answered
 complete calls old new end fits e short (inr r) =
-    let same = append_cancel_left session_start (records_of r.taken ++ r.rest) (flat_map spelling calls ++ closing_record) (sym r.before ∙ e) in
+    let same = append_cancel_left session_start (records_of r.taken ++ r.rest) (flat_map encoding calls ++ closing_record) (sym r.before ∙ e) in
     let rest = rest_of r.taken calls r.rest r.fits fits same in
     let whole = ap length e in
     let parts = ap length r.before ∙ length-append session_start (records_of r.taken ++ r.rest) in

@@ -273,7 +273,7 @@ element-word target is =
 
 -- why bufferData answers an error
 reason-data : (w : PageState) (t : BufferTarget) (target usage : ℕ) (fill : Fill) (refused : Option GlError) (e : GlError) → buffer_target_of target ≡ Some t
-    → first_refusal (data_rules w target usage fill) ≡ refused → store.AnswersOrWants t refused (Err e) → HasReason w (Call.BufferData target usage fill) e
+    → first_refusal (data_rules w target usage fill) ≡ refused → store.AnswersOrRunsOut t refused (Err e) → HasReason w (Call.BufferData target usage fill) e
 reason-data w t target usage fill refused error.Enum is same answer = inl (same ∙ answer)
 reason-data w t target usage fill refused error.Value is same answer = inl (same ∙ answer)
 reason-data w t target usage fill refused error.Operation is same answer = inl (same ∙ answer)
@@ -285,7 +285,7 @@ reason-data w t target usage fill refused error.Framebuffer is same answer = inl
 pub does_data : (kept : Kept) (w : PageState) (t : BufferTarget) (u : Usage) (target usage : ℕ) (fill : Fill) (filling : Contents.Content) (new : Stored)
     (result : Result (Unit {0}) GlError) → Keeps kept w
     → buffer_target_of target ≡ Some t → usage_of usage ≡ Some u → Fits (Call.BufferData target usage fill) → Fills fill (Some filling)
-    → store.AnswersOrWants t (store.data_refusal kept.buffers t filling) result
+    → store.AnswersOrRunsOut t (store.data_refusal kept.buffers t filling) result
     → OnOk result (new ≡ store.filled kept.buffers t filling u) → OnErr result (new ≡ kept.buffers)
     → Does w (Call.BufferData target usage fill) (record kept { buffers = new }) result
 does_data kept w t u target usage fill filling new (Ok done) k is is_used fits fills answer ok err =

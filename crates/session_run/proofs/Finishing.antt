@@ -11,13 +11,13 @@ use Rattle.call_records.specs.Reading.{StartRefuses, Refuses, TwoWords}
 use Rattle.command_stream.specs.Commands.{stream, stream_start}
 use Rattle.gl_model.specs.PageState.{first_page}
 use Rattle.gl_model.specs.DriverState.{first_driver}
-use Rattle.gl_model.proofs.Replaying.{replay-front}
+use Rattle.gl_model.proofs.Replaying.{replay-prefix}
 use Rattle.session_run.specs.PageRun.{Taken}
 use Rattle.session_run.specs.Sent.{all_sent}
 use Rattle.session_run.specs.Sessions.{records_of, answered_by, sent_by}
 use Rattle.session_run.specs.Causes.{Finishes}
 use Rattle.session_run.specs.Outcomes.{Served, Headline, Ended, Stopped, Unopened, Outcome, WhereAllTold, status_of, IsSessionStatus}
-use Rattle.session_run.proofs.Cutting.{answers-front, commands-front}
+use Rattle.session_run.proofs.Cutting.{answers-prefix, commands-prefix}
 use Rattle.session_run.proofs.Telling.{nothing-by, served, regrouped}
 use Rattle.session_run.proofs.Looping.{none-taken}
 
@@ -77,11 +77,11 @@ stopped_served taken input left answered sends got more s were began =
       done_within = omega arith;
       replied = s.replied ∙ sym (take-length (answered_by taken));
       sent_partly = s.sent_exactly ∙ sym (take-length all);
-      but_last = λ k within. answers-front first_page taken k;
+      but_last = λ k within. answers-prefix first_page taken k;
       after = λ k some within whole.
-          (let front = commands-front first_page taken k in
-          omega (arith, front, length-append stream_start (sent_by (take k taken)), length-append stream_start (sent_by taken)));
-      faultless = λ k. replay-front first_driver (all_sent first_page taken) k s.faultless;
+          (let prefix = commands-prefix first_page taken k in
+          omega (arith, prefix, length-append stream_start (sent_by (take k taken)), length-append stream_start (sent_by taken)));
+      faultless = λ k. replay-prefix first_driver (all_sent first_page taken) k s.faultless;
     }
 
 -- reading ended, where a flush failed
@@ -98,7 +98,7 @@ pub stopped_whole : (input left answered sends : List ℕ) → Headline input le
 stopped_whole input left answered sends h =
     stopped_served h.taken input left answered sends input closing_record h.served (sym (append-nil input) ∙ ap (λ l. input ++ l) (sym h.nothing)) (inr h.whole)
 
--- memory was wanting, and a flush failed
+-- memory ran out, and a flush failed
 pub stopped_unopened : (input left answered sends : List ℕ) → Unopened input left answered sends → Stopped input left answered sends
 stopped_unopened input left answered sends u =
     let none = nothing-by in
@@ -119,7 +119,7 @@ stopped_unopened input left answered sends u =
       sent_partly = u.unsent;
       but_last = λ k before. absurd (omega arith);
       after = λ k some before said. absurd (omega arith);
-      faultless = λ k. replay-front first_driver (all_sent first_page []) k s.faultless;
+      faultless = λ k. replay-prefix first_driver (all_sent first_page []) k s.faultless;
     }
 
 -- whatever a run did, a flush failed after it
@@ -194,7 +194,7 @@ told_ended end status left0 left out0 out stream0 stream e told =
     subst (λ (r : Statuses.Status). WhereAllTold (Outcome r) left0 left out0 out stream0 stream) (sym e)
     (redone (Ended end) (Outcome (status_of end)) (outcome_ended end) left0 left out0 out stream0 stream told)
 
--- memory was wanting
+-- memory ran out
 pub unopened : (left out stream : Option (List ℕ)) → WhereAllTold (Outcome Status.OutOfMemory) left left out out stream stream
 unopened left out stream = λ input held_out held_stream e_in e_out e_stream. record {
   rest = input;

@@ -3,10 +3,10 @@ use Rattle.std.proofs.Common.{◌≡◌, ℕ, ◌+◌, ◌-◌, ◌<◌, ◌≤�
 use Rattle.std.specs.Io.KnownBytes.{prepend_known, append_known}
 use Rattle.wire_io.proofs.Known.{taken_twice, sent_twice}
 use Rattle.call_records.specs.declared.calls.Call.{Call}
-use Rattle.call_records.specs.Records.{spelling, Fits}
+use Rattle.call_records.specs.Records.{encoding, Fits}
 use Rattle.gl_numbers.proofs.Bytes.{length-le32}
 use Rattle.gl_model.specs.PageState.{first_page}
-use Rattle.session_run.specs.PageRun.{Taken, page_after, replies, WantsAllowed}
+use Rattle.session_run.specs.PageRun.{Taken, page_after, replies, OutOfMemoryAllowed}
 use Rattle.session_run.specs.Sent.{all_sent}
 use Rattle.session_run.specs.Stands.{Kept, Keeps}
 use Rattle.session_run.specs.Sessions.{records_of, answered_by, sent_by, AreTaken, SoFar, OneAnswered}
@@ -23,8 +23,8 @@ append-nothing (Some xs) = ap Some (sym (append-nil xs))
 
 -- no call was taken
 pub none-taken : AreTaken []
-unfolding replies WantsAllowed
-none-taken = record { fits = λ k d within. absurd (omega arith); wants = refl; allowed = tt }
+unfolding replies OutOfMemoryAllowed
+none-taken = record { fits = λ k d within. absurd (omega arith); out_of_memory = refl; allowed = tt }
 
 -- no command was sent
 pub nothing-sent : (stream : Option (List ℕ)) → stream ≡ append_known stream (sent_by [])
@@ -44,11 +44,11 @@ begins left out stream kept keeps = record {
 
 -- one more call was answered
 pub goes_on : (left0 mid left out0 outm out stream0 streamm stream : Option (List ℕ)) (kept new : Kept) (at size : ℕ) (call : Call)
-    → (so_far : SoFar left0 mid out0 outm stream0 streamm kept at) → Fits call → mid ≡ prepend_known (spelling call) left → size ≡ length (spelling call)
+    → (so_far : SoFar left0 mid out0 outm stream0 streamm kept at) → Fits call → mid ≡ prepend_known (encoding call) left → size ≡ length (encoding call)
     → OneAnswered (page_after first_page so_far.taken) call new outm out streamm stream → SoFar left0 left out0 out stream0 stream new (at + size)
 goes_on left0 mid left out0 outm out stream0 streamm stream kept new at size call so_far fits taken counted one =
     let ts = so_far.taken in
-    let t : Taken = record { call = call; want = one.want } in
+    let t : Taken = record { call = call; out_of_memory = one.out_of_memory } in
     record {
       taken = ts ++ t ∷ [];
       progress = record {
@@ -56,15 +56,15 @@ goes_on left0 mid left out0 outm out stream0 streamm stream kept new at size cal
         answered = sent_twice out0 outm out (answered_by ts) _ so_far.progress.answered one.answered ∙ ap (append_known out0) (sym (answered_by-push ts t));
         sends = sent_twice stream0 streamm stream (sent_by ts) _ so_far.progress.sends one.sends ∙ ap (append_known stream0) (sym (sent_by-push ts t));
       };
-      read = taken_twice left0 mid left (records_of ts) (spelling call) so_far.read taken ∙ ap (λ l. prepend_known l left) (sym (records_of-push ts t));
+      read = taken_twice left0 mid left (records_of ts) (encoding call) so_far.read taken ∙ ap (λ l. prepend_known l left) (sym (records_of-push ts t));
       keeps = rw page_after-push one.keeps;
-      counted = rw (records_of-push ts t) (omega (arith, so_far.counted, counted, length-append (records_of ts) (spelling call)));
+      counted = rw (records_of-push ts t) (omega (arith, so_far.counted, counted, length-append (records_of ts) (encoding call)));
     }
 
 -- a record has its header
-pub record-long : (call : Call) → 8 ≤ length (spelling call)
+pub record-long : (call : Call) → 8 ≤ length (encoding call)
 record-long call = simp (length-append, length-le32) (omega arith)
 
 -- the loop comes nearer to the most bytes that it counts
-pub nearer : (at size : ℕ) (call : Call) → size ≡ length (spelling call) → at + size ≤ 2 ^ 63 → 2 ^ 63 - (at + size) < 2 ^ 63 - at
+pub nearer : (at size : ℕ) (call : Call) → size ≡ length (encoding call) → at + size ≤ 2 ^ 63 → 2 ^ 63 - (at + size) < 2 ^ 63 - at
 nearer at size call e within = omega (arith, e, record-long call)

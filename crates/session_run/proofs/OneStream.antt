@@ -21,7 +21,7 @@ use Rattle.command_stream.specs.declared.command.Command.TheVariants.{MakeBuffer
 use Rattle.command_stream.specs.Commands.{stream}
 use Rattle.command_stream.specs.Plain as Plain
 use Rattle.command_stream.specs.Plain.{plain}
-use Rattle.command_stream.proofs.OneSpelling.{stream-one}
+use Rattle.command_stream.proofs.OneEncoding.{stream-one}
 use Rattle.gl_model.specs.Buffers.{Buffer, bound_to, non_zero}
 use Rattle.gl_model.specs.PageState.{PageState, Object, is_live, buffer_at, page_buffer, IsSoundBuffer, IsSound}
 use Rattle.gl_model.specs.DriverState.{DriverState, first_driver}
@@ -151,9 +151,9 @@ fits-acted w (Call.BufferSubData target offset part) s fits unrefused = fits-sub
 fits-acted w (Call.GetBufferParameter target name) s fits unrefused = All-none Plain.Fits
 fits-acted w Call.GetError s fits unrefused = All-none Plain.Fits
 
-pub fits-judged : (w : PageState) (call : Call) (want : Bool) (refused : Option GlError) → IsSound w → Fits call → refusal w call ≡ refused
-    → All Plain.Fits (sent_judged w call want refused)
-fits-judged w call want (Some error) s fits e = All-none Plain.Fits
+pub fits-judged : (w : PageState) (call : Call) (out_of_memory : Bool) (refused : Option GlError) → IsSound w → Fits call → refusal w call ≡ refused
+    → All Plain.Fits (sent_judged w call out_of_memory refused)
+fits-judged w call out_of_memory (Some error) s fits e = All-none Plain.Fits
 fits-judged w call true None s fits e = All-none Plain.Fits
 fits-judged w call false None s fits e = fits-acted w call s fits e
 
@@ -162,9 +162,9 @@ pub fits-all : (w : PageState) (taken : List Taken) → IsSound w → All (λ t.
 unfolding all_sent
 fits-all w [] s fits = All-none Plain.Fits
 fits-all w (t ∷ taken) s fits =
-    All-append Plain.Fits (sent w t.call t.want) (all_sent (step_taken w t).page taken)
-    (fits-judged w t.call t.want (refusal w t.call) s (fits 0 t (omega arith)) refl)
-    (fits-all (step_taken w t).page taken (sound-step w t.call t.want s (fits 0 t (omega arith))) (λ k d within. fits (suc k) d (omega arith)))
+    All-append Plain.Fits (sent w t.call t.out_of_memory) (all_sent (step_taken w t).page taken)
+    (fits-judged w t.call t.out_of_memory (refusal w t.call) s (fits 0 t (omega arith)) refl)
+    (fits-all (step_taken w t).page taken (sound-step w t.call t.out_of_memory s (fits 0 t (omega arith))) (λ k d within. fits (suc k) d (omega arith)))
 
 -- where a command's bytes lie means nothing to the driver
 pub plain-rules : (g : DriverState) (command : Command) → Driver.rules g (plain command) ≡ Driver.rules g command

@@ -6,11 +6,11 @@ use Rattle.std.proofs.lemmas.Bool.{cases_lt}
 use Rattle.std.proofs.lemmas.Grind.{flat_map-append}
 use Rattle.std.proofs.lemmas.List.{take-append-drop, take-append-le}
 use Rattle.std.proofs.Math.Seq.{take-append_seam, take-add}
-use Rattle.wire_io.proofs.Fronts.{rest_of}
+use Rattle.wire_io.proofs.Prefixes.{rest_of}
 use Rattle.call_records.specs.declared.reading.TheConstants.{INPUT_MAX}
 use Rattle.command_stream.specs.declared.operation.TheConstants.{HEADER_BYTES, BODY_MAX}
 use Rattle.command_stream.specs.declared.command.Command.{Command}
-use Rattle.command_stream.specs.Commands.{op_of, body_of, command_spelling, stream_start, stream}
+use Rattle.command_stream.specs.Commands.{op_of, body_of, command_encoding, stream_start, stream}
 use Rattle.command_stream.specs.DecoderState.{DecoderState, IsPart, HasBadStart, HasBadCommand, start_taken, command_at}
 use Rattle.command_stream.specs.Decoding.{Takes, Decoded}
 use Rattle.command_stream.proofs.Pieces.{length-start, length-two, allows-within}
@@ -31,26 +31,26 @@ use Rattle.session_run.specs.declared.replay.ReplayEnd.{ReplayEnd}
 use Rattle.session_run.specs.declared.replay.ReplayEnd.TheVariants.{Truncated, Magic, Version, Refused, Late, Faults, Memory, Read}
 
 -- the length of a stream
-pub length-stream : (commands : List Command) → length (stream commands) ≡ 8 + length (flat_map command_spelling commands)
-length-stream commands = length-append stream_start (flat_map command_spelling commands) ∙ ap (λ n. n + length (flat_map command_spelling commands)) length-start
+pub length-stream : (commands : List Command) → length (stream commands) ≡ 8 + length (flat_map command_encoding commands)
+length-stream commands = length-append stream_start (flat_map command_encoding commands) ∙ ap (λ n. n + length (flat_map command_encoding commands)) length-start
 
 -- one more command in a stream
-pub stream-push : (commands : List Command) (c : Command) → stream (commands ++ c ∷ []) ≡ stream commands ++ command_spelling c
+pub stream-push : (commands : List Command) (c : Command) → stream (commands ++ c ∷ []) ≡ stream commands ++ command_encoding c
 stream-push commands c =
-    ap (λ l. stream_start ++ l) (flat_map-append command_spelling commands (c ∷ []) ∙ ap (λ l. flat_map command_spelling commands ++ l) (append-nil (command_spelling c)))
-    ∙ sym (append_assoc stream_start (flat_map command_spelling commands) (command_spelling c))
+    ap (λ l. stream_start ++ l) (flat_map-append command_encoding commands (c ∷ []) ∙ ap (λ l. flat_map command_encoding commands ++ l) (append-nil (command_encoding c)))
+    ∙ sym (append_assoc stream_start (flat_map command_encoding commands) (command_encoding c))
 
 -- one more header within the bound
 within-push : (commands : List Command) (c : Command) → HeadersWithin commands → length (stream commands) + HEADER_BYTES ≤ INPUT_MAX → HeadersWithin (commands ++ c ∷ [])
 within-push commands c within room k below =
     elim (cases_lt k (length commands)) [
       | inl before ↦
-          let front : take k (commands ++ c ∷ []) ≡ take k commands = take-append-le k commands (c ∷ []) (omega (arith, before)) in
-          subst (λ (l : List Command). length (stream l) + HEADER_BYTES ≤ INPUT_MAX) (sym front) (within k before)
+          let prefix : take k (commands ++ c ∷ []) ≡ take k commands = take-append-le k commands (c ∷ []) (omega (arith, before)) in
+          subst (λ (l : List Command). length (stream l) + HEADER_BYTES ≤ INPUT_MAX) (sym prefix) (within k before)
       | inr last ↦
           let place : k ≡ length commands = omega (arith, last, below, length-append commands (c ∷ [])) in
-          let front : take k (commands ++ c ∷ []) ≡ commands = ap (λ n. take n (commands ++ c ∷ [])) place ∙ take-append_seam commands (c ∷ []) in
-          subst (λ (l : List Command). length (stream l) + HEADER_BYTES ≤ INPUT_MAX) (sym front) room
+          let prefix : take k (commands ++ c ∷ []) ≡ commands = ap (λ n. take n (commands ++ c ∷ [])) place ∙ take-append_seam commands (c ∷ []) in
+          subst (λ (l : List Command). length (stream l) + HEADER_BYTES ≤ INPUT_MAX) (sym prefix) room
     ]
 
 -- what one more command made is counted
@@ -80,21 +80,21 @@ so_far-none kept first none = record {
 -- the bytes of the commands so far and of what is begun, once the header was taken
 pub bytes-started : (all : List ℕ) (commands : List Command) (s : DecoderState) → Decoded all commands s → s.started ≡ true → all ≡ stream commands ++ s.begun
 bytes-started all commands s d e =
-    d.bytes ∙ ap (λ b. start_taken b ++ (flat_map command_spelling commands ++ s.begun)) e ∙ sym (append_assoc stream_start (flat_map command_spelling commands) s.begun)
+    d.bytes ∙ ap (λ b. start_taken b ++ (flat_map command_encoding commands ++ s.begun)) e ∙ sym (append_assoc stream_start (flat_map command_encoding commands) s.begun)
 
 -- the same where nothing is begun
 pub bytes-idle : (all : List ℕ) (commands : List Command) (s : DecoderState) → Decoded all commands s → s.started ≡ true → s.begun ≡ [] → all ≡ stream commands
 bytes-idle all commands s d e idle = bytes-started all commands s d e ∙ ap (λ l. stream commands ++ l) idle ∙ append-nil (stream commands)
 
 -- the next header is within the bound, by whether the stream's header was taken and a command is begun
-room-by : (started : Bool) (begun all : List ℕ) (taken : ℕ) (commands : List Command) → all ≡ start_taken started ++ (flat_map command_spelling commands ++ begun)
+room-by : (started : Bool) (begun all : List ℕ) (taken : ℕ) (commands : List Command) → all ≡ start_taken started ++ (flat_map command_encoding commands ++ begun)
     → taken ≡ length all → (started ≡ false → commands ≡ []) → (0 < length begun → started ≡ true → length (stream commands) + HEADER_BYTES ≤ INPUT_MAX)
     → (started ≡ true → begun ≡ [] → taken + HEADER_BYTES ≤ INPUT_MAX) → length (stream commands) + HEADER_BYTES ≤ INPUT_MAX
 room-by false begun all taken commands e counted early room idle = rw (early refl) (omega (arith, length-stream []))
 room-by true (b ∷ begun) all taken commands e counted early room idle = room (omega arith) refl
 room-by true [] all taken commands e counted early room idle =
     let now : taken + HEADER_BYTES ≤ INPUT_MAX = idle refl refl in
-    omega (arith, now, counted, ap length e, length-append stream_start (flat_map command_spelling commands ++ []), length-append (flat_map command_spelling commands) [], length-start, length-stream commands)
+    omega (arith, now, counted, ap length e, length-append stream_start (flat_map command_encoding commands ++ []), length-append (flat_map command_encoding commands) [], length-start, length-stream commands)
 
 pub next-room : (all : List ℕ) (decoder : DecoderState) (kept : Kept) (tally : Tally) → (s : SoFar all decoder kept tally)
     → (decoder.started ≡ true → decoder.begun ≡ [] → decoder.taken + HEADER_BYTES ≤ INPUT_MAX) → length (stream s.commands) + HEADER_BYTES ≤ INPUT_MAX
@@ -120,9 +120,9 @@ fed all piece decoder new kept tally n s taken room = record {
 pub played : (all piece : List ℕ) (decoder new : DecoderState) (kept after : Kept) (tally now : Tally) (n : ℕ) (c : Command) → (s : SoFar all decoder kept tally)
     → Takes decoder piece new n (Some c) → OnePlayed c kept tally after now → length (stream s.commands) + HEADER_BYTES ≤ INPUT_MAX → SoFar (all ++ take n piece) new after now
 played all piece decoder new kept after tally now n c s taken one room =
-    let size : length (command_spelling c) ≡ 8 + length (body_of c) = length-two (op_of c) (length (body_of c)) (body_of c) in
-    let sum : length (stream (s.commands ++ c ∷ [])) ≡ length (stream s.commands) + length (command_spelling c) =
-    ap length (stream-push s.commands c) ∙ length-append (stream s.commands) (command_spelling c) in
+    let size : length (command_encoding c) ≡ 8 + length (body_of c) = length-two (op_of c) (length (body_of c)) (body_of c) in
+    let sum : length (stream (s.commands ++ c ∷ [])) ≡ length (stream s.commands) + length (command_encoding c) =
+    ap length (stream-push s.commands c) ∙ length-append (stream s.commands) (command_encoding c) in
     record {
       commands = s.commands ++ c ∷ [];
       made = s.made ++ option_to_list (shot (state_of kept) c);
@@ -164,7 +164,7 @@ pub refused : (all piece : List ℕ) (decoder : DecoderState) (kept : Kept) (tal
     → length (stream s.commands) + HEADER_BYTES ≤ INPUT_MAX → HasBadHeader (all ++ piece) at
 refused all piece decoder kept tally at s bad e room =
     let here : all ++ piece ≡ stream s.commands ++ bad.bytes =
-    bad-place all piece s.commands decoder s.decoded bad ∙ sym (append_assoc stream_start (flat_map command_spelling s.commands) bad.bytes) in
+    bad-place all piece s.commands decoder s.decoded bad ∙ sym (append_assoc stream_start (flat_map command_encoding s.commands) bad.bytes) in
     let place : at ≡ length (stream s.commands) = e ∙ begins-at all s.commands decoder s.decoded in
     record {
       begins = begins-here all (all ++ piece) bad.bytes decoder kept tally s here;
@@ -191,13 +191,13 @@ pub faulted : (all piece : List ℕ) (decoder new : DecoderState) (kept : Kept) 
     → Takes decoder piece new n (Some c) → OneFaulted c kept number code → length (stream s.commands) + HEADER_BYTES ≤ INPUT_MAX → HasFault (all ++ piece) number code
 faulted all piece decoder new kept tally n number code c s taken one room =
     let d = decoded-more all piece s.commands decoder new n (Some c) s.decoded taken in
-    let part : all ++ take n piece ≡ stream s.commands ++ command_spelling c =
+    let part : all ++ take n piece ≡ stream s.commands ++ command_encoding c =
     bytes-idle (all ++ take n piece) (s.commands ++ c ∷ []) new d taken.ends.1 taken.ends.2 ∙ stream-push s.commands c in
-    let here : all ++ piece ≡ stream s.commands ++ (command_spelling c ++ drop n piece) =
+    let here : all ++ piece ≡ stream s.commands ++ (command_encoding c ++ drop n piece) =
     ap (λ l. all ++ l) (sym (take-append-drop n piece)) ∙ sym (append_assoc all (take n piece) (drop n piece)) ∙ ap (λ l. l ++ drop n piece) part
-    ∙ append_assoc (stream s.commands) (command_spelling c) (drop n piece) in
+    ∙ append_assoc (stream s.commands) (command_encoding c) (drop n piece) in
     record {
-      begins = begins-here all (all ++ piece) (command_spelling c ++ drop n piece) decoder kept tally s here;
+      begins = begins-here all (all ++ piece) (command_encoding c ++ drop n piece) decoder kept tally s here;
       room = room;
       command = c;
       fits = taken.ends.0;
@@ -234,11 +234,11 @@ part-short true begun (inr p) =
     omega (arith, size, p.short, allows-within p.operation p.len p.allowed)
 
 -- commands have eight bytes each at least
-many : (commands : List Command) → 8 * length commands ≤ length (flat_map command_spelling commands)
+many : (commands : List Command) → 8 * length commands ≤ length (flat_map command_encoding commands)
 many [] = omega arith
 many (c ∷ commands) =
-    let size : length (command_spelling c) ≡ 8 + length (body_of c) = length-two (op_of c) (length (body_of c)) (body_of c) in
-    omega (arith, size, many commands, length-append (command_spelling c) (flat_map command_spelling commands))
+    let size : length (command_encoding c) ≡ 8 + length (body_of c) = length-two (op_of c) (length (body_of c)) (body_of c) in
+    omega (arith, size, many commands, length-append (command_encoding c) (flat_map command_encoding commands))
 
 -- the numbers of what was taken and applied are far from their types' ends
 pub record Bounds (decoder : DecoderState) (kept : Kept) (tally : Tally) : Type 0 where
@@ -247,11 +247,11 @@ pub record Bounds (decoder : DecoderState) (kept : Kept) (tally : Tally) : Type 
   pub tallied : tally ≡ no_tally
 
 -- no more bytes were taken than those of the commands, and of a part of the next
-taken-by : (started : Bool) (begun all : List ℕ) (commands : List Command) → all ≡ start_taken started ++ (flat_map command_spelling commands ++ begun)
+taken-by : (started : Bool) (begun all : List ℕ) (commands : List Command) → all ≡ start_taken started ++ (flat_map command_encoding commands ++ begun)
     → length all ≤ length (stream commands) + length begun
-taken-by false begun all commands e = omega (arith, ap length e, length-append (flat_map command_spelling commands) begun, length-stream commands)
+taken-by false begun all commands e = omega (arith, ap length e, length-append (flat_map command_encoding commands) begun, length-stream commands)
 taken-by true begun all commands e =
-    omega (arith, ap length e, length-append stream_start (flat_map command_spelling commands ++ begun), length-append (flat_map command_spelling commands) begun, length-start, length-stream commands)
+    omega (arith, ap length e, length-append stream_start (flat_map command_encoding commands ++ begun), length-append (flat_map command_encoding commands) begun, length-start, length-stream commands)
 
 pub bounds : (all : List ℕ) (decoder : DecoderState) (kept : Kept) (tally : Tally) → SoFar all decoder kept tally → Bounds decoder kept tally
 bounds all decoder kept tally s = record {
@@ -260,12 +260,12 @@ bounds all decoder kept tally s = record {
   tallied = s.tallied ∙ tally-none s.made;
 }
 
--- a part of what is left of a piece, behind what was taken of it
+-- a part of what is left of a piece, after what was taken of it
 pub piece-more : (all piece : List ℕ) (used n : ℕ) → (all ++ take used piece) ++ take n (take (length piece - used) (drop used piece)) ≡ all ++ take (used + n) piece
 piece-more all piece used n =
     append_assoc all (take used piece) _ ∙ ap (λ l. all ++ l) (ap (λ l. take used piece ++ take n l) (rest_of used piece) ∙ sym (take-add used n piece))
 
--- all that is left of a piece, behind what was taken of it
+-- all that is left of a piece, after what was taken of it
 pub piece-rest : (all piece : List ℕ) (used : ℕ) → (all ++ take used piece) ++ take (length piece - used) (drop used piece) ≡ all ++ piece
 piece-rest all piece used =
     append_assoc all (take used piece) _ ∙ ap (λ l. all ++ l) (ap (λ l. take used piece ++ l) (rest_of used piece) ∙ take-append-drop used piece)

@@ -5,12 +5,12 @@ use Rattle.std.specs.List.{flat_map}
 use Rattle.std.proofs.lemmas.List.{map-append}
 use Rattle.std.proofs.lemmas.Grind.{flat_map-append}
 use Rattle.std.proofs.lemmas.List.Elements.{All-append}
-use Rattle.call_records.specs.Records.{spelling, Fits}
-use Rattle.call_records.specs.Replies.{reply_spelling}
-use Rattle.command_stream.specs.Commands.{command_spelling}
+use Rattle.call_records.specs.Records.{encoding, Fits}
+use Rattle.call_records.specs.Replies.{reply_encoding}
+use Rattle.command_stream.specs.Commands.{command_encoding}
 use Rattle.gl_model.specs.PageState.{PageState, first_page}
-use Rattle.session_run.specs.PageStep.{MayWant, is_want}
-use Rattle.session_run.specs.PageRun.{Taken, step_taken, page_after, replies, WantsAllowed}
+use Rattle.session_run.specs.PageStep.{MayBeOutOfMemory, is_out_of_memory}
+use Rattle.session_run.specs.PageRun.{Taken, step_taken, page_after, replies, OutOfMemoryAllowed}
 use Rattle.session_run.specs.Sent.{sent, all_sent}
 use Rattle.session_run.specs.Applied.{bytes_of}
 use Rattle.session_run.specs.Sessions.{records_of, answers_of, answered_by, sent_by, AreTaken}
@@ -25,37 +25,37 @@ unfolding replies page_after
 replies-push w [] t = refl
 replies-push w (s ∷ ts) t = ap (λ rs. (step_taken w s).reply ∷ rs) (replies-push (step_taken w s).page ts t)
 
-pub all_sent-push : (w : PageState) (ts : List Taken) (t : Taken) → all_sent w (ts ++ t ∷ []) ≡ all_sent w ts ++ sent (page_after w ts) t.call t.want
+pub all_sent-push : (w : PageState) (ts : List Taken) (t : Taken) → all_sent w (ts ++ t ∷ []) ≡ all_sent w ts ++ sent (page_after w ts) t.call t.out_of_memory
 unfolding all_sent page_after
-all_sent-push w [] t = append-nil (sent w t.call t.want)
+all_sent-push w [] t = append-nil (sent w t.call t.out_of_memory)
 all_sent-push w (s ∷ ts) t =
-    ap (λ cs. sent w s.call s.want ++ cs) (all_sent-push (step_taken w s).page ts t)
-    ∙ sym (append_assoc (sent w s.call s.want) (all_sent (step_taken w s).page ts) (sent (page_after (step_taken w s).page ts) t.call t.want))
+    ap (λ cs. sent w s.call s.out_of_memory ++ cs) (all_sent-push (step_taken w s).page ts t)
+    ∙ sym (append_assoc (sent w s.call s.out_of_memory) (all_sent (step_taken w s).page ts) (sent (page_after (step_taken w s).page ts) t.call t.out_of_memory))
 
-pub WantsAllowed-push : (w : PageState) (ts : List Taken) (t : Taken) → WantsAllowed w ts → (t.want ≡ true → MayWant (page_after w ts) t.call)
-    → WantsAllowed w (ts ++ t ∷ [])
-unfolding WantsAllowed page_after
-WantsAllowed-push w [] t allowed may = (may, tt)
-WantsAllowed-push w (s ∷ ts) t allowed may = (allowed.0, WantsAllowed-push (step_taken w s).page ts t allowed.1 may)
+pub OutOfMemoryAllowed-push : (w : PageState) (ts : List Taken) (t : Taken) → OutOfMemoryAllowed w ts → (t.out_of_memory ≡ true → MayBeOutOfMemory (page_after w ts) t.call)
+    → OutOfMemoryAllowed w (ts ++ t ∷ [])
+unfolding OutOfMemoryAllowed page_after
+OutOfMemoryAllowed-push w [] t allowed may = (may, tt)
+OutOfMemoryAllowed-push w (s ∷ ts) t allowed may = (allowed.0, OutOfMemoryAllowed-push (step_taken w s).page ts t allowed.1 may)
 
 -- one more record
-pub records_of-push : (ts : List Taken) (t : Taken) → records_of (ts ++ t ∷ []) ≡ records_of ts ++ spelling t.call
+pub records_of-push : (ts : List Taken) (t : Taken) → records_of (ts ++ t ∷ []) ≡ records_of ts ++ encoding t.call
 records_of-push ts t =
-    ap (flat_map spelling) (map-append (λ (s : Taken). s.call) ts (t ∷ []))
-    ∙ flat_map-append spelling (map (λ s. s.call) ts) (t.call ∷ [])
-    ∙ ap (λ l. records_of ts ++ l) (append-nil (spelling t.call))
+    ap (flat_map encoding) (map-append (λ (s : Taken). s.call) ts (t ∷ []))
+    ∙ flat_map-append encoding (map (λ s. s.call) ts) (t.call ∷ [])
+    ∙ ap (λ l. records_of ts ++ l) (append-nil (encoding t.call))
 
 -- one more reply
-pub answered_by-push : (ts : List Taken) (t : Taken) → answered_by (ts ++ t ∷ []) ≡ answered_by ts ++ reply_spelling (step_taken (page_after first_page ts) t).reply
+pub answered_by-push : (ts : List Taken) (t : Taken) → answered_by (ts ++ t ∷ []) ≡ answered_by ts ++ reply_encoding (step_taken (page_after first_page ts) t).reply
 answered_by-push ts t =
     ap answers_of (replies-push first_page ts t)
-    ∙ flat_map-append reply_spelling (replies first_page ts) ((step_taken (page_after first_page ts) t).reply ∷ [])
-    ∙ ap (λ l. answered_by ts ++ l) (append-nil (reply_spelling (step_taken (page_after first_page ts) t).reply))
+    ∙ flat_map-append reply_encoding (replies first_page ts) ((step_taken (page_after first_page ts) t).reply ∷ [])
+    ∙ ap (λ l. answered_by ts ++ l) (append-nil (reply_encoding (step_taken (page_after first_page ts) t).reply))
 
 -- more commands
-pub sent_by-push : (ts : List Taken) (t : Taken) → sent_by (ts ++ t ∷ []) ≡ sent_by ts ++ bytes_of (sent (page_after first_page ts) t.call t.want)
+pub sent_by-push : (ts : List Taken) (t : Taken) → sent_by (ts ++ t ∷ []) ≡ sent_by ts ++ bytes_of (sent (page_after first_page ts) t.call t.out_of_memory)
 sent_by-push ts t =
-    ap bytes_of (all_sent-push first_page ts t) ∙ flat_map-append command_spelling (all_sent first_page ts) (sent (page_after first_page ts) t.call t.want)
+    ap bytes_of (all_sent-push first_page ts t) ∙ flat_map-append command_encoding (all_sent first_page ts) (sent (page_after first_page ts) t.call t.out_of_memory)
 
 -- a list of one
 pub only : (t : Taken) → Fits t.call → All (λ s. Fits s.call) (t ∷ [])
@@ -67,13 +67,13 @@ pub fits-push : (ts : List Taken) (t : Taken) → All (λ s. Fits s.call) ts →
 fits-push ts t fits one = All-append (λ s. Fits s.call) ts (t ∷ []) fits (only t one)
 
 -- one more call with its want
-pub AreTaken-push : (ts : List Taken) (t : Taken) → AreTaken ts → Fits t.call → (t.want ≡ true → MayWant (page_after first_page ts) t.call)
-    → t.want ≡ is_want (step_taken (page_after first_page ts) t).reply → AreTaken (ts ++ t ∷ [])
+pub AreTaken-push : (ts : List Taken) (t : Taken) → AreTaken ts → Fits t.call → (t.out_of_memory ≡ true → MayBeOutOfMemory (page_after first_page ts) t.call)
+    → t.out_of_memory ≡ is_out_of_memory (step_taken (page_after first_page ts) t).reply → AreTaken (ts ++ t ∷ [])
 AreTaken-push ts t are fits may said =
     let reply = (step_taken (page_after first_page ts) t).reply in
-    let both : map (λ (s : Taken). s.want) ts ++ t.want ∷ [] ≡ map is_want (replies first_page ts) ++ is_want reply ∷ [] = cc (are.wants, said) in
+    let both : map (λ (s : Taken). s.out_of_memory) ts ++ t.out_of_memory ∷ [] ≡ map is_out_of_memory (replies first_page ts) ++ is_out_of_memory reply ∷ [] = cc (are.out_of_memory, said) in
     record {
       fits = fits-push ts t are.fits fits;
-      wants = map-append (λ (s : Taken). s.want) ts (t ∷ []) ∙ both ∙ sym (map-append is_want (replies first_page ts) (reply ∷ [])) ∙ ap (map is_want) (sym (replies-push first_page ts t));
-      allowed = WantsAllowed-push first_page ts t are.allowed may;
+      out_of_memory = map-append (λ (s : Taken). s.out_of_memory) ts (t ∷ []) ∙ both ∙ sym (map-append is_out_of_memory (replies first_page ts) (reply ∷ [])) ∙ ap (map is_out_of_memory) (sym (replies-push first_page ts t));
+      allowed = OutOfMemoryAllowed-push first_page ts t are.allowed may;
     }

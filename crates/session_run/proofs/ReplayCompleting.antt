@@ -6,12 +6,12 @@ use Rattle.std.proofs.lemmas.List.{append_cancel_left, map-append}
 use Rattle.std.proofs.lemmas.List.Elements.{All-nil, All-cons, All-head, All-tail}
 use Rattle.wire_io.specs.declared.status.Status.TheVariants as Status
 use Rattle.command_stream.specs.declared.command.Command.{Command}
-use Rattle.command_stream.specs.Commands.{op_of, body_of, command_spelling, stream_start, stream}
+use Rattle.command_stream.specs.Commands.{op_of, body_of, command_encoding, stream_start, stream}
 use Rattle.command_stream.specs.Plain.{Fits, plain}
 use Rattle.command_stream.specs.Decoding.{Decoded}
 use Rattle.command_stream.specs.DecoderState.{DecoderState}
 use Rattle.command_stream.proofs.Pieces.{length-start, length-two}
-use Rattle.command_stream.proofs.OneSpelling.{SameCommand, command_spelling-one, spelling-some, same_fronts}
+use Rattle.command_stream.proofs.OneEncoding.{SameCommand, command_encoding-one, encoding-some, same_fronts}
 use Rattle.command_stream.proofs.Decoding.{decoded-stream, decoded-one, stream-not-bad}
 use Rattle.gl_model.specs.DriverState.{first_driver}
 use Rattle.gl_model.specs.DriverStep.{Fault}
@@ -22,20 +22,20 @@ use Rattle.session_run.specs.declared.replay.ReplayEnd.TheVariants.{Truncated, M
 use Rattle.session_run.proofs.OneStream.{plain-replay}
 use Rattle.session_run.proofs.Playing.{length-stream}
 
--- what is left of commands behind some that begin them
+-- what is left of commands after some that begin them
 record RestOf (done todo : List Command) (rest : List ℕ) : Type 0 where
   later : List Command
   fits : All Fits later
-  left : rest ≡ flat_map command_spelling later
+  left : rest ≡ flat_map command_encoding later
   same : map plain todo ≡ map plain (done ++ later)
 
-rest_of : (done todo : List Command) (rest : List ℕ) → All Fits done → All Fits todo → flat_map command_spelling done ++ rest ≡ flat_map command_spelling todo → RestOf done todo rest
+rest_of : (done todo : List Command) (rest : List ℕ) → All Fits done → All Fits todo → flat_map command_encoding done ++ rest ≡ flat_map command_encoding todo → RestOf done todo rest
 rest_of [] todo rest took fits e = record { later = todo; fits = fits; left = e; same = refl }
 rest_of (c ∷ done) [] rest took fits e =
-    absurd (spelling-some c (flat_map command_spelling done ++ rest) (sym e ∙ append_assoc (command_spelling c) (flat_map command_spelling done) rest))
+    absurd (encoding-some c (flat_map command_encoding done ++ rest) (sym e ∙ append_assoc (command_encoding c) (flat_map command_encoding done) rest))
 rest_of (c ∷ done) (d ∷ todo) rest took fits e =
-    let one : SameCommand c d (flat_map command_spelling done ++ rest) (flat_map command_spelling todo) =
-    command_spelling-one c d _ _ (All-head Fits c done took) (All-head Fits d todo fits) (sym (append_assoc (command_spelling c) (flat_map command_spelling done) rest) ∙ e) in
+    let one : SameCommand c d (flat_map command_encoding done ++ rest) (flat_map command_encoding todo) =
+    command_encoding-one c d _ _ (All-head Fits c done took) (All-head Fits d todo fits) (sym (append_assoc (command_encoding c) (flat_map command_encoding done) rest) ∙ e) in
     let more : RestOf done todo rest = rest_of done todo rest (All-tail Fits c done took) (All-tail Fits d todo fits) one.rest in
     record {
       later = more.later;
@@ -44,19 +44,19 @@ rest_of (c ∷ done) (d ∷ todo) rest took fits e =
       same = ap (λ h. h ∷ map plain todo) (sym one.command) ∙ ap (λ t. plain c ∷ t) more.same;
     }
 
--- what is left of a stream behind commands that begin it
-behind : (commands : List Command) → All Fits commands → (b : Begins (stream commands)) → RestOf b.commands commands b.rest
-behind commands fits b =
+-- what is left of a stream after commands that begin it
+after : (commands : List Command) → All Fits commands → (b : Begins (stream commands)) → RestOf b.commands commands b.rest
+after commands fits b =
     rest_of b.commands commands b.rest b.fits fits
-    (append_cancel_left stream_start _ _ (sym (append_assoc stream_start (flat_map command_spelling b.commands) b.rest) ∙ sym b.are))
+    (append_cancel_left stream_start _ _ (sym (append_assoc stream_start (flat_map command_encoding b.commands) b.rest) ∙ sym b.are))
 
--- a fault behind commands that begin a stream is its replay's
+-- a fault after commands that begin a stream is its replay's
 pub fault-of : (commands : List Command) (number code : ℕ) → All Fits commands → HasFault (stream commands) number code → FaultsAt (replay first_driver commands) number code
 fault-of commands number code fits h =
-    let r : RestOf h.begins.commands commands h.begins.rest = behind commands fits h.begins in
+    let r : RestOf h.begins.commands commands h.begins.rest = after commands fits h.begins in
     let next : RestOf (h.command ∷ []) r.later h.more =
     rest_of (h.command ∷ []) r.later h.more (All-cons Fits h.command [] h.fits (All-nil Fits)) r.fits
-    (ap (λ l. l ++ h.more) (append-nil (command_spelling h.command)) ∙ sym h.next ∙ r.left) in
+    (ap (λ l. l ++ h.more) (append-nil (command_encoding h.command)) ∙ sym h.next ∙ r.left) in
     let same : map plain commands ≡ map plain (h.begins.commands ++ h.command ∷ next.later) =
     r.same ∙ map-append plain h.begins.commands r.later ∙ ap (λ l. map plain h.begins.commands ++ l) next.same ∙ sym (map-append plain h.begins.commands (h.command ∷ next.later)) in
     let one : replay first_driver commands ≡ replay first_driver (h.begins.commands ++ h.command ∷ next.later) =
@@ -64,17 +64,17 @@ fault-of commands number code fits h =
     subst (λ (r : Replayed). FaultsAt r number code) (sym one) (h.faults next.later)
 
 -- commands that aren't none have a header
-header-long : (commands : List Command) → 0 < length (flat_map command_spelling commands) → 8 ≤ length (flat_map command_spelling commands)
+header-long : (commands : List Command) → 0 < length (flat_map command_encoding commands) → 8 ≤ length (flat_map command_encoding commands)
 header-long [] some = absurd (omega (arith, some))
 header-long (c ∷ commands) some =
-    omega (arith, length-two (op_of c) (length (body_of c)) (body_of c), length-append (command_spelling c) (flat_map command_spelling commands))
+    omega (arith, length-two (op_of c) (length (body_of c)) (body_of c), length-append (command_encoding c) (flat_map command_encoding commands))
 
 -- in a stream of at most 2^62 bytes no header is too late
 not-late : (commands : List Command) (at : ℕ) → All Fits commands → length (stream commands) ≤ 2 ^ 62 → HasLateHeader (stream commands) at → ⊥
 not-late commands at fits short h =
-    let r : RestOf h.begins.commands commands h.begins.rest = behind commands fits h.begins in
+    let r : RestOf h.begins.commands commands h.begins.rest = after commands fits h.begins in
     let size = ap length r.left in
-    let some : 0 < length (flat_map command_spelling r.later) = omega (arith, h.begun, size) in
+    let some : 0 < length (flat_map command_encoding r.later) = omega (arith, h.begun, size) in
     omega (arith, header-long r.later some, size, ap length h.begins.are, length-append (stream h.begins.commands) h.begins.rest, h.place, h.late, short)
 
 -- nor is one refused
@@ -86,7 +86,7 @@ not-refused commands at fits h =
 -- nor is its own header another
 not-other : (commands : List Command) → HasOtherStart (stream commands) → ⊥
 not-other commands h =
-    h.other (same_fronts h.first stream_start h.rest (flat_map command_spelling commands) (h.size ∙ sym length-start) (sym h.are)).0
+    h.other (same_fronts h.first stream_start h.rest (flat_map command_encoding commands) (h.size ∙ sym length-start) (sym h.are)).0
 
 -- a state of a decoder that has taken the stream's header
 abbrev begun_with : List ℕ → ℕ → DecoderState
@@ -97,7 +97,7 @@ not-cut : (commands : List Command) → All Fits commands → EndsInCommand (str
 not-cut commands fits h =
     let b = h.begins in
     let part : Decoded (stream commands) b.commands (begun_with b.rest (length (stream commands))) = record {
-      bytes = b.are ∙ append_assoc stream_start (flat_map command_spelling b.commands) b.rest;
+      bytes = b.are ∙ append_assoc stream_start (flat_map command_encoding b.commands) b.rest;
       each = b.fits;
       early = λ e. absurd cc;
       rest = h.part;
@@ -106,7 +106,7 @@ not-cut commands fits h =
     let none : b.rest ≡ [] = ap (λ (s : DecoderState). s.begun) (decoded-one (stream commands) b.commands commands _ _ part (decoded-stream commands fits)).1 in
     omega (arith, h.begun, ap length none)
 
--- how the replay of a whole stream ends that stops: in its fault, or for want of memory, or where the source failed
+-- how the replay of a whole stream ends that stops: in its fault, or for out of memory, or where the source failed
 abbrev pub EndsAs : List Command → ReplayEnd → Type 0
 EndsAs commands (Truncated at) = ⊥
 EndsAs commands Magic = ⊥

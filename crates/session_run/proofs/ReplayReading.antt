@@ -12,9 +12,9 @@ use Rattle.wire_io.proofs.Told.{told, told_end, taken_none}
 use Rattle.wire_io.proofs.Known.{taken_twice}
 use Rattle.command_stream.specs.declared.operation.TheConstants.{START_BYTES}
 use Rattle.command_stream.specs.declared.command.Command.{Command}
-use Rattle.command_stream.specs.Commands.{command_spelling, stream}
+use Rattle.command_stream.specs.Commands.{command_encoding, stream}
 use Rattle.command_stream.specs.DecoderState.{DecoderState, IsPart, start_taken}
-use Rattle.command_stream.proofs.OneSpelling.{stream-one}
+use Rattle.command_stream.proofs.OneEncoding.{stream-one}
 use Rattle.command_stream.proofs.Decoding.{refused-more}
 use Rattle.gl_model.specs.DriverState.{first_driver}
 use Rattle.gl_model.specs.Replay.{Replayed, replay}
@@ -106,7 +106,7 @@ read_whole all piece n left0 mid left decoder kept tally r none e ended started 
 }
 
 -- once eight bytes were taken, the stream's header was
-started-by : (started : Bool) (begun all : List ℕ) (commands : List Command) → all ≡ start_taken started ++ (flat_map command_spelling commands ++ begun)
+started-by : (started : Bool) (begun all : List ℕ) (commands : List Command) → all ≡ start_taken started ++ (flat_map command_encoding commands ++ begun)
     → (started ≡ false → commands ≡ []) → IsPart started begun → START_BYTES ≤ length all → started ≡ true
 started-by true begun all commands e early part long = refl
 started-by false begun all commands e early part long =
@@ -150,27 +150,27 @@ unfolding le32
 magic-word = refl
 
 -- the word that begins a list
-front-word : (w : ℕ) (first : List ℕ) → first ≡ le32 w ++ drop 4 first → take 4 first ≡ le32 w
-front-word w first e = ap (take 4) e ∙ ap (λ n. take n (le32 w ++ drop 4 first)) (sym (length-le32 w)) ∙ take-append_seam (le32 w) (drop 4 first)
+prefix-word : (w : ℕ) (first : List ℕ) → first ≡ le32 w ++ drop 4 first → take 4 first ≡ le32 w
+prefix-word w first e = ap (take 4) e ∙ ap (λ n. take n (le32 w ++ drop 4 first)) (sym (length-le32 w)) ∙ take-append_seam (le32 w) (drop 4 first)
 
 -- eight bytes that begin with that word
 pub has_magic : (w : ℕ) (first : List ℕ) → first ≡ le32 w ++ drop 4 first → w ≡ STREAM_MAGIC → START_BYTES ≤ length first → HasMagic first
-has_magic w first e is long = (long, front-word w first e ∙ ap le32 is ∙ magic-word)
+has_magic w first e is long = (long, prefix-word w first e ∙ ap le32 is ∙ magic-word)
 
 -- eight bytes that begin with another word
 pub other_magic : (w : ℕ) (first : List ℕ) → first ≡ le32 w ++ drop 4 first → w < 2 ^ 32 → (w ≡ STREAM_MAGIC → ⊥) → START_BYTES ≤ length first → HasOtherMagic first
 other_magic w first e fits other long = record {
   whole = long;
   other = λ is.
-      (let words : le32 w ≡ le32 STREAM_MAGIC = sym (front-word w first e) ∙ is ∙ sym magic-word in
+      (let words : le32 w ≡ le32 STREAM_MAGIC = sym (prefix-word w first e) ∙ is ∙ sym magic-word in
       let same : Same w STREAM_MAGIC [] [] = le32-one w STREAM_MAGIC [] [] fits (lit< tt) (ap (λ l. l ++ []) words) in
       other same.word);
 }
 
 -- what was read of the stream's header, where it is all of the piece
-pub read_front : (n : ℕ) (first : List ℕ) (left0 mid : Option (List ℕ)) → length first ≡ START_BYTES → START_BYTES ≤ n → left0 ≡ prepend_known (take n first) mid
+pub read_prefix : (n : ℕ) (first : List ℕ) (left0 mid : Option (List ℕ)) → length first ≡ START_BYTES → START_BYTES ≤ n → left0 ≡ prepend_known (take n first) mid
     → left0 ≡ prepend_known first mid
-read_front n first left0 mid size long e = e ∙ ap (λ l. prepend_known l mid) (take_all n first (omega (arith, size, long)))
+read_prefix n first left0 mid size long e = e ∙ ap (λ l. prepend_known l mid) (take_all n first (omega (arith, size, long)))
 
 -- the stream begins with another word
 pub magic_read : (first : List ℕ) (left0 left : Option (List ℕ)) → left0 ≡ prepend_known first left → HasOtherMagic first → ReadUntil Magic [] left0 left
@@ -236,7 +236,7 @@ pub told_whole : (left0 left : Option (List ℕ)) (decoder : DecoderState) (kept
 told_whole left0 left decoder kept tally r =
     told_end (CountedStream kept.count tally) left0 left r.read.got r.read.took r.ended (whole-stream r.read.got decoder kept tally r.read.so_far r.started r.idle)
 
--- more bytes behind commands
+-- more bytes after commands
 abbrev extended : (bytes more : List ℕ) → Begins bytes → Begins (bytes ++ more)
 extended bytes more b = record {
   commands = b.commands;
@@ -295,7 +295,7 @@ told_stopped left0 left (Faults number code) r = told (λ old new. Stops old (Fa
     command = r.stops.command;
     fits = r.stops.fits;
     more = r.stops.more ++ rest;
-    next = ap (λ l. l ++ rest) r.stops.next ∙ append_assoc (command_spelling r.stops.command) r.stops.more rest;
+    next = ap (λ l. l ++ rest) r.stops.next ∙ append_assoc (command_encoding r.stops.command) r.stops.more rest;
     faults = r.stops.faults;
   },
   tt,

@@ -6,16 +6,16 @@ use Rattle.gl_numbers.proofs.Bytes.{length-le32, length-le64}
 use Rattle.wire_io.specs.Sinks.{Sends}
 use Rattle.command_stream.specs.declared.command.Command.{Command}
 use Rattle.command_stream.specs.declared.command.Command.TheVariants.{MakeBuffer, DropBuffer, BindBuffer, BufferSize, BufferBytes}
-use Rattle.command_stream.specs.Commands.{command_spelling, Allowed}
+use Rattle.command_stream.specs.Commands.{command_encoding, Allowed}
 use Rattle.call_records.specs.declared.calls.Call.TheVariants.{BufferData, BufferSubData}
 use Rattle.call_records.specs.declared.calls.Fill.TheVariants.{Bytes}
 use Rattle.call_records.specs.Records.{Fits}
 use Rattle.session_run.specs.Applied.{bytes_of}
 
 -- sending one command is sending a list of one
-pub sends_one : {T E : Type 0} (old new : Option (List ℕ)) (result : Result T E) (command : Command) → Sends old new result (command_spelling command)
+pub sends_one : {T E : Type 0} (old new : Option (List ℕ)) (result : Result T E) (command : Command) → Sends old new result (command_encoding command)
     → Sends old new result (bytes_of (command ∷ []))
-sends_one old new result command h = subst (Sends old new result) (sym (append-nil (command_spelling command))) h
+sends_one old new result command h = subst (Sends old new result) (sym (append-nil (command_encoding command))) h
 
 -- a size's body is short
 pub allowed_size : (target usage size : ℕ) → Allowed (BufferSize target usage size)

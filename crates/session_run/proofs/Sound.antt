@@ -288,11 +288,11 @@ sound-data w target usage fill s fits unrefused =
 pub length-patch : (bytes : List ℕ) (offset : ℕ) (part : List ℕ) → offset + length part ≤ length bytes → length (patch bytes offset part) ≡ length bytes
 length-patch bytes offset part within =
     let rest = drop (offset + length part) bytes in
-    let front : length (take offset bytes) ≡ offset = length-take-le offset bytes (omega (arith, within)) in
+    let prefix : length (take offset bytes) ≡ offset = length-take-le offset bytes (omega (arith, within)) in
     let back : length rest ≡ length bytes - (offset + length part) = length-drop (offset + length part) bytes in
     let more : length (part ++ rest) ≡ length part + length rest = length-append part rest in
     let all : length (take offset bytes ++ (part ++ rest)) ≡ length (take offset bytes) + length (part ++ rest) = length-append (take offset bytes) (part ++ rest) in
-    all ∙ omega (arith, front, back, more, within)
+    all ∙ omega (arith, prefix, back, more, within)
 
 -- bufferSubData
 pub sound-sub_data : (w : PageState) (target : ℕ) (offset : ℤ) (part : List ℕ) → IsSound w → first_refusal (sub_data_rules w target offset part) ≡ None
@@ -320,12 +320,12 @@ sound-acted w (Call.GetBufferParameter target name) s fits unrefused = s
 sound-acted w Call.GetError s fits unrefused = sound-errors w (effect w Call.GetError).errors s
 
 -- a call whose refusal was judged
-pub sound-judged : (w : PageState) (call : Call) (want : Bool) (refused : Option GlError) → IsSound w → Fits call → refusal w call ≡ refused
-    → IsSound (step_judged w call want refused).page
-sound-judged w call want (Some error) s fits e = sound-errors w (step_judged w call want (Some error)).page.errors s
+pub sound-judged : (w : PageState) (call : Call) (out_of_memory : Bool) (refused : Option GlError) → IsSound w → Fits call → refusal w call ≡ refused
+    → IsSound (step_judged w call out_of_memory refused).page
+sound-judged w call out_of_memory (Some error) s fits e = sound-errors w (step_judged w call out_of_memory (Some error)).page.errors s
 sound-judged w call true None s fits e = sound-errors w (step_judged w call true None).page.errors s
 sound-judged w call false None s fits e = sound-acted w call s fits e
 
 -- every step
-pub sound-step : (w : PageState) (call : Call) (want : Bool) → IsSound w → Fits call → IsSound (step w call want).page
-sound-step w call want s fits = sound-judged w call want (refusal w call) s fits refl
+pub sound-step : (w : PageState) (call : Call) (out_of_memory : Bool) → IsSound w → Fits call → IsSound (step w call out_of_memory).page
+sound-step w call out_of_memory s fits = sound-judged w call out_of_memory (refusal w call) s fits refl

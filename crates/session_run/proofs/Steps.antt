@@ -19,7 +19,7 @@ use Rattle.gl_model.specs.Shot.{Shot}
 use Rattle.gl_model.proofs.Replaying.{replay-none, replay-append, resumed}
 use Rattle.session_run.specs.ErrorRecords.{error_effect}
 use Rattle.session_run.specs.BufferRecords.{whole}
-use Rattle.session_run.specs.PageStep.{refusal, step, step_judged, effect, is_want}
+use Rattle.session_run.specs.PageStep.{refusal, step, step_judged, effect, is_out_of_memory}
 use Rattle.session_run.specs.PageRun.{Taken, step_taken, page_after, shots}
 use Rattle.session_run.specs.Sent.{sent, sent_judged, commands_of, all_sent}
 use Rattle.std.proofs.Common.{ℕ, Result, Ok, Err}
@@ -54,16 +54,16 @@ follows-acted w g (GetBufferParameter target name) a fits unrefused = follows-no
 follows-acted w g GetError a fits unrefused = follows-silent w g (error_effect w).errors a
 
 -- a call whose refusal was judged
-pub follows-judged : (w : PageState) (g : DriverState) (call : Call) (want : Bool) (refused : Option GlError) → Agrees w g → Fits call → refusal w call ≡ refused
-    → Follows g (sent_judged w call want refused) (option_to_list (step_judged w call want refused).made) (step_judged w call want refused).page
-follows-judged w g call want (Some error) a fits e = follows-silent w g (raise error w.errors) a
+pub follows-judged : (w : PageState) (g : DriverState) (call : Call) (out_of_memory : Bool) (refused : Option GlError) → Agrees w g → Fits call → refusal w call ≡ refused
+    → Follows g (sent_judged w call out_of_memory refused) (option_to_list (step_judged w call out_of_memory refused).made) (step_judged w call out_of_memory refused).page
+follows-judged w g call out_of_memory (Some error) a fits e = follows-silent w g (raise error w.errors) a
 follows-judged w g call true None a fits e = follows-silent w g (raise Memory w.errors) a
 follows-judged w g call false None a fits e = follows-acted w g call a fits e
 
 -- every step
-pub follows-step : (w : PageState) (g : DriverState) (call : Call) (want : Bool) → Agrees w g → Fits call
-    → Follows g (sent w call want) (option_to_list (step w call want).made) (step w call want).page
-follows-step w g call want a fits = follows-judged w g call want (refusal w call) a fits refl
+pub follows-step : (w : PageState) (g : DriverState) (call : Call) (out_of_memory : Bool) → Agrees w g → Fits call
+    → Follows g (sent w call out_of_memory) (option_to_list (step w call out_of_memory).made) (step w call out_of_memory).page
+follows-step w g call out_of_memory a fits = follows-judged w g call out_of_memory (refusal w call) a fits refl
 
 -- the count of two lists of commands
 pub counted : (first second : List Command) (made more : List Shot) (g : DriverState)
@@ -91,17 +91,17 @@ pub follows-all : (w : PageState) (g : DriverState) (taken : List Taken) → Agr
 unfolding all_sent shots page_after
 follows-all w g [] a fits = record { driver = g; replayed = replay-none g; agrees = a }
 follows-all w g (t ∷ taken) a fits =
-    let first = follows-step w g t.call t.want a (fits 0 t (omega arith)) in
-    follows-then g (sent w t.call t.want) (all_sent (step_taken w t).page taken) _ _ (step_taken w t).page _ first
+    let first = follows-step w g t.call t.out_of_memory a (fits 0 t (omega arith)) in
+    follows-then g (sent w t.call t.out_of_memory) (all_sent (step_taken w t).page taken) _ _ (step_taken w t).page _ first
     (follows-all (step_taken w t).page first.driver taken first.agrees (λ k d within. fits (suc k) d (omega arith)))
 
 -- a call that was applied, where what was kept stood for the page and the driver
 pub steps_applied : (w : PageState) (g : DriverState) (call : Call) (before kept : Kept) (old new : Option (List ℕ)) (result : Result Reply Failed)
     → Stands before w g → Fits call → Applies w call kept old new result → StepsOrStops w g call kept old new result
 steps_applied w g call before kept old new (Ok reply) stands fits a =
-    let follows = follows-step w g call (is_want reply) stands.agrees fits in
+    let follows = follows-step w g call (is_out_of_memory reply) stands.agrees fits in
     record {
-      commands = sent w call (is_want reply);
+      commands = sent w call (is_out_of_memory reply);
       driver = follows.driver;
       applied = a;
       exact = refl;

@@ -26,17 +26,17 @@ use Rattle.session_run.proofs.OneStream.{fits-all, one-replay}
 use Rattle.session_run.proofs.Sound.{sound-first}
 use Rattle.session_run.proofs.Steps.{follows-all}
 use Rattle.session_run.proofs.Looping.{none-taken}
-use Rattle.gl_model.proofs.Replaying.{replay-front}
+use Rattle.gl_model.proofs.Replaying.{replay-prefix}
 
 -- what was left before some bytes were taken, and after
-pub record Split (input front : List ℕ) (mid : Option (List ℕ)) : Type 0 where
+pub record Split (input prefix : List ℕ) (mid : Option (List ℕ)) : Type 0 where
   pub rest : List ℕ
   pub mid_is : mid ≡ Some rest
-  pub whole : input ≡ front ++ rest
+  pub whole : input ≡ prefix ++ rest
 
-pub split : (input front : List ℕ) (old mid : Option (List ℕ)) → old ≡ Some input → old ≡ prepend_known front mid → Split input front mid
-split input front old None e p = absurd cc
-split input front old (Some rest) e p = record { rest = rest; mid_is = refl; whole = cc }
+pub split : (input prefix : List ℕ) (old mid : Option (List ℕ)) → old ≡ Some input → old ≡ prepend_known prefix mid → Split input prefix mid
+split input prefix old None e p = absurd cc
+split input prefix old (Some rest) e p = record { rest = rest; mid_is = refl; whole = cc }
 
 -- a fact about what was left and what is left, where the first is told
 pub record Both (P : List ℕ → List ℕ → Type 0) (input : List ℕ) (new : Option (List ℕ)) : Type 0 where
@@ -78,8 +78,8 @@ one-each w (t ∷ taken) = ap suc (one-each (step_taken w t).page taken)
 -- a refused call changes an error flag alone, and sends nothing
 pub refused-in-vain : (w : PageState) (t : Taken) (error : GlError) → refusal w t.call ≡ Some error → RefusedInVain w t error
 refused-in-vain w t error e = record {
-  page = ap (λ (r : Option GlError). (step_judged w t.call t.want r).page) e;
-  commands = ap (sent_judged w t.call t.want) e;
+  page = ap (λ (r : Option GlError). (step_judged w t.call t.out_of_memory r).page) e;
+  commands = ap (sent_judged w t.call t.out_of_memory) e;
 }
 
 -- so does each of them
@@ -187,7 +187,7 @@ told_records left0 mid left out0 out stream0 streamm stream (Err Write) taken st
         sent_partly = refl;
         but_last = cut.but_last;
         after = λ k some within whole. (let first = cut.after k within whole in omega (arith, first, length-append stream_start (sent_by (take k r.taken))));
-        faultless = λ k. replay-front first_driver (all_sent first_page r.taken) k (ap (λ (r : Replayed). r.fault) follows.replayed);
+        faultless = λ k. replay-prefix first_driver (all_sent first_page r.taken) k (ap (λ (r : Replayed). r.fault) follows.replayed);
       };
     }
 
@@ -240,6 +240,6 @@ told_header left out stream0 stream n within cut = λ input held_out held_stream
         sent_partly = ap (take n) (sym whole);
         but_last = λ k before. absurd (omega arith);
         after = λ k some before said. absurd (omega arith);
-        faultless = λ k. replay-front first_driver (all_sent first_page []) k (ap (λ (r : Replayed). r.fault) follows.replayed);
+        faultless = λ k. replay-prefix first_driver (all_sent first_page []) k (ap (λ (r : Replayed). r.fault) follows.replayed);
       };
     }

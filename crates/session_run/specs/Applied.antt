@@ -10,9 +10,9 @@ use Rattle.call_records.specs.declared.calls.Call.{Call}
 use Rattle.call_records.specs.declared.replies.Reply.{Reply}
 use Rattle.call_records.specs.declared.replies.Value.{Value}
 use Rattle.command_stream.specs.declared.command.Command.{Command}
-use Rattle.command_stream.specs.Commands.{command_spelling}
+use Rattle.command_stream.specs.Commands.{command_encoding}
 use Rattle.gl_model.specs.PageState.{PageState}
-use Rattle.session_run.specs.PageStep.{refusal, effect, value, step, MayWant, is_want}
+use Rattle.session_run.specs.PageStep.{refusal, effect, value, step, MayBeOutOfMemory, is_out_of_memory}
 use Rattle.session_run.specs.Sent.{commands_of, sent}
 use Rattle.std.specs.Option.{option_to_list}
 use Rattle.gl_model.specs.DriverState.{DriverState}
@@ -21,11 +21,11 @@ use Rattle.session_run.specs.Stands.{Kept, Keeps, Stands}
 
 -- the bytes of commands
 abbrev pub bytes_of : List Command → List ℕ
-bytes_of commands = flat_map command_spelling commands
+bytes_of commands = flat_map command_encoding commands
 
--- why a call answers an error: it is refused with it, or memory is wanting
+-- why a call answers an error: it is refused with it, or memory runs out
 abbrev pub HasReason : PageState → Call → GlError → Type 0
-HasReason w call error = (refusal w call ≡ Some error) ⊎ ((error ≡ Memory) × MayWant w call)
+HasReason w call error = (refusal w call ≡ Some error) ⊎ ((error ≡ Memory) × MayBeOutOfMemory w call)
 
 -- the page's own part of a call: it acted, or answers an error and stands for the same
 abbrev pub Does : {T : Type 0} → PageState → Call → Kept → Result T GlError → Type 0
@@ -45,13 +45,13 @@ Acts w call kept old new (Ok (Err error)) = HasReason w call error × Keeps kept
 Acts w call kept old new (Err failed) =
     (refusal w call ≡ None) × Sends {T = Unit {0}} old new (Err failed) (bytes_of (commands_of w call))
 
--- a call was answered by a step of the page's machine, and its commands were sent; memory was wanting where the reply
+-- a call was answered by a step of the page's machine, and its commands were sent; memory ran out where the reply
 -- says so
 pub record Applied (w : PageState) (call : Call) (kept : Kept) (old new : Option (List ℕ)) (reply : Reply) : Type 0 where
-  pub allowed : is_want reply ≡ true → MayWant w call
-  pub replied : reply ≡ (step w call (is_want reply)).reply
-  pub keeps : Keeps kept (step w call (is_want reply)).page
-  pub sends : new ≡ append_known old (bytes_of (sent w call (is_want reply)))
+  pub allowed : is_out_of_memory reply ≡ true → MayBeOutOfMemory w call
+  pub replied : reply ≡ (step w call (is_out_of_memory reply)).reply
+  pub keeps : Keeps kept (step w call (is_out_of_memory reply)).page
+  pub sends : new ≡ append_known old (bytes_of (sent w call (is_out_of_memory reply)))
 
 -- a call was answered, or its commands were cut short
 abbrev pub Applies : PageState → Call → Kept → Option (List ℕ) → Option (List ℕ) → Result Reply Failed → Type 0
@@ -64,10 +64,10 @@ pub record Steps (w : PageState) (g : DriverState) (call : Call) (kept : Kept) (
   pub commands : List Command
   pub driver : DriverState
   pub applied : Applied w call kept old new reply
-  pub exact : commands ≡ sent w call (is_want reply)
+  pub exact : commands ≡ sent w call (is_out_of_memory reply)
   pub sends : new ≡ append_known old (bytes_of commands)
-  pub replayed : replay g commands ≡ clean driver (option_to_list (step w call (is_want reply)).made) commands
-  pub stands : Stands kept (step w call (is_want reply)).page driver
+  pub replayed : replay g commands ≡ clean driver (option_to_list (step w call (is_out_of_memory reply)).made) commands
+  pub stands : Stands kept (step w call (is_out_of_memory reply)).page driver
 
 -- a call was answered so, or its commands were cut short
 abbrev pub StepsOrStops : PageState → DriverState → Call → Kept → Option (List ℕ) → Option (List ℕ) → Result Reply Failed → Type 0

@@ -15,7 +15,7 @@ use Rattle.gl_model.specs.Shot.{Shot}
 use Rattle.gl_model.specs.PageState.{first_page}
 use Rattle.gl_model.specs.DriverState.{first_driver}
 use Rattle.gl_model.specs.Replay.{replay}
-use Rattle.session_run.specs.PageRun.{Taken, replies, shots, WantsAllowed}
+use Rattle.session_run.specs.PageRun.{Taken, replies, shots, OutOfMemoryAllowed}
 use Rattle.session_run.specs.Sent.{all_sent, RefusalsChangeNothing}
 use Rattle.session_run.specs.Sessions.{records_of, answered_by, AreTaken}
 use Rattle.session_run.specs.declared.session.RunEnd.{RunEnd}
@@ -66,13 +66,13 @@ pub record EndedInRecord (end : ReadEnd) (input left answered sends : List ℕ) 
 abbrev pub Ended : ReadEnd → List ℕ → List ℕ → List ℕ → List ℕ → Type 0
 Ended end input left answered sends = EndedInStart end input left answered sends ⊎ EndedInRecord end input left answered sends
 
--- a sink failed: what was written are fronts of the replies of the calls taken, of which all but the last are whole, and
--- of the stream's header and their commands; where a call's reply is whole, so are its commands. Every front of these
+-- a sink failed: what was written are prefixes of the replies of the calls taken, of which all but the last are whole, and
+-- of the stream's header and their commands; where a call's reply is whole, so are its commands. Every prefix of these
 -- commands replays without a fault
 pub record Stopped (input left answered sends : List ℕ) : Type 0 where
   pub taken : List Taken
   pub fits : All (λ t. Fits t.call) taken
-  pub allowed : WantsAllowed first_page taken
+  pub allowed : OutOfMemoryAllowed first_page taken
   pub got : List ℕ
   pub more : List ℕ
   pub were_left : input ≡ got ++ left
@@ -87,7 +87,7 @@ pub record Stopped (input left answered sends : List ℕ) : Type 0 where
   pub after : (k : ℕ) → 0 < k → k ≤ length taken → length (answered_by (take k taken)) ≤ said → length (stream (all_sent first_page (take k taken))) ≤ done
   pub faultless : (k : ℕ) → (replay first_driver (take k (all_sent first_page taken))).fault ≡ None
 
--- memory was wanting before the first byte was taken
+-- memory ran out before the first byte was taken
 pub record Unopened (input left answered sends : List ℕ) : Type 0 where
   pub untaken : left ≡ input
   pub unanswered : answered ≡ []

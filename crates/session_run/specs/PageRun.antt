@@ -5,16 +5,16 @@ use Rattle.call_records.specs.declared.calls.Call.{Call}
 use Rattle.call_records.specs.declared.replies.Reply.{Reply}
 use Rattle.gl_model.specs.PageState.{PageState}
 use Rattle.gl_model.specs.Shot.{Shot}
-use Rattle.session_run.specs.PageStep.{Stepped, step, MayWant}
+use Rattle.session_run.specs.PageStep.{Stepped, step, MayBeOutOfMemory}
 
--- a call that was taken, and whether memory was wanting for it
+-- a call that was taken, and whether memory ran out for it
 pub record Taken : Type 0 where
   pub call : Call
-  pub want : Bool
+  pub out_of_memory : Bool
 
 -- the step of a call that was taken
 abbrev pub step_taken : PageState → Taken → Stepped
-step_taken w t = step w t.call t.want
+step_taken w t = step w t.call t.out_of_memory
 
 -- the page's state after calls
 unfoldable pub page_after : PageState → List Taken → PageState
@@ -31,7 +31,7 @@ unfoldable pub shots : PageState → List Taken → List Shot
 shots w [] = []
 shots w (t ∷ ts) = option_to_list (step_taken w t).made ++ shots (step_taken w t).page ts
 
--- memory is wanting only where it may be
-unfoldable pub WantsAllowed : PageState → List Taken → Type 0
-WantsAllowed w [] = Unit {0}
-WantsAllowed w (t ∷ ts) = (t.want ≡ true → MayWant w t.call) × WantsAllowed (step_taken w t).page ts
+-- memory runs out only where it may be
+unfoldable pub OutOfMemoryAllowed : PageState → List Taken → Type 0
+OutOfMemoryAllowed w [] = Unit {0}
+OutOfMemoryAllowed w (t ∷ ts) = (t.out_of_memory ≡ true → MayBeOutOfMemory w t.call) × OutOfMemoryAllowed (step_taken w t).page ts

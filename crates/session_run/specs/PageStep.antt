@@ -35,11 +35,11 @@ rules w GetError = []
 abbrev pub refusal : PageState → Call → Option GlError
 refusal w call = first_refusal (rules w call)
 
--- a call that nothing refuses may be answered that memory is wanting
-abbrev pub may_want : Call → Bool
-may_want (Create Buffer) = true
-may_want (BufferData target usage fill) = target == ELEMENT_ARRAY_BUFFER
-may_want _ = false
+-- a call that nothing refuses may be answered that memory runs out
+abbrev pub may_be_out_of_memory : Call → Bool
+may_be_out_of_memory (Create Buffer) = true
+may_be_out_of_memory (BufferData target usage fill) = target == ELEMENT_ARRAY_BUFFER
+may_be_out_of_memory _ = false
 
 -- what a call does that nothing refuses
 abbrev pub effect : PageState → Call → PageState
@@ -89,25 +89,25 @@ acted w call = record {
   made = shot w call;
 }
 
--- memory is wanting, or the call acts
-abbrev pub unless_wanting : PageState → Call → Bool → Stepped
-unless_wanting w call true = raised w Memory
-unless_wanting w call false = acted w call
+-- memory runs out, or the call acts
+abbrev pub unless_out_of_memory : PageState → Call → Bool → Stepped
+unless_out_of_memory w call true = raised w Memory
+unless_out_of_memory w call false = acted w call
 
 -- the step of a call whose refusal was judged
 abbrev pub step_judged : PageState → Call → Bool → Option GlError → Stepped
-step_judged w call want (Some error) = raised w error
-step_judged w call want None = unless_wanting w call want
+step_judged w call out_of_memory (Some error) = raised w error
+step_judged w call out_of_memory None = unless_out_of_memory w call out_of_memory
 
--- the step of a call, and whether memory was wanting
+-- the step of a call, and whether memory ran out
 abbrev pub step : PageState → Call → Bool → Stepped
-step w call want = step_judged w call want (refusal w call)
+step w call out_of_memory = step_judged w call out_of_memory (refusal w call)
 
 -- memory may be wanting here: nothing refuses the call, and it is one that may want
-pub record MayWant (w : PageState) (call : Call) : Type 0 where
+pub record MayBeOutOfMemory (w : PageState) (call : Call) : Type 0 where
   pub unrefused : refusal w call ≡ None
-  pub kind : may_want call ≡ true
+  pub kind : may_be_out_of_memory call ≡ true
 
--- a reply that says that memory was wanting
-abbrev pub is_want : Reply → Bool
-is_want reply = reply.raised == OUT_OF_MEMORY
+-- a reply that says that memory ran out
+abbrev pub is_out_of_memory : Reply → Bool
+is_out_of_memory reply = reply.raised == OUT_OF_MEMORY

@@ -66,7 +66,7 @@ PlaysOne command old before new now (Err (Faults number code)) = OneFaulted comm
 PlaysOne command old before new now (Err Memory) = Unit {0}
 PlaysOne command old before new now (Err Read) = ⊥
 
--- the bytes so far, with a piece's behind them, stop the replay so
+-- the bytes so far, with a piece's after them, stop the replay so
 abbrev pub PieceStops : List ℕ → ReplayEnd → Type 0
 PieceStops bytes (Truncated at) = ⊥
 PieceStops bytes Magic = ⊥
@@ -137,7 +137,7 @@ pub record FinishesOne (HandedOn : Type 0) (out0 out : ℕ) (status result : Sta
   pub later : out0 ≤ out
   pub cases : ((result ≡ status) × HandedOn) ⊎ ((result ≡ Status.WriteFault) × Rose out0 out)
 
--- a line was added, or a front of it where a write failed, or nothing where memory was wanting
+-- a line was added, or a prefix of it where a write failed, or nothing where memory ran out
 abbrev pub TellsLine : List ℕ → Option (List ℕ) → Option (List ℕ) → Statuses.Status → Type 0
 TellsLine line out0 out Status.Ok = out ≡ append_known out0 line
 TellsLine line out0 out Status.OutOfMemory = out ≡ out0

@@ -8,7 +8,7 @@ use Rattle.wire_io.specs.declared.status.Status.TheVariants as Status
 use Rattle.call_records.specs.declared.reading.TheConstants.{INPUT_MAX}
 use Rattle.command_stream.specs.declared.operation.TheConstants.{START_BYTES, HEADER_BYTES}
 use Rattle.command_stream.specs.declared.command.Command.{Command}
-use Rattle.command_stream.specs.Commands.{command_spelling, stream_start, stream}
+use Rattle.command_stream.specs.Commands.{command_encoding, stream_start, stream}
 use Rattle.command_stream.specs.Plain.{Fits, plain}
 use Rattle.command_stream.specs.DecoderState.{IsPartOfCommand, IsRefused}
 use Rattle.gl_model.specs.DriverState.{first_driver}
@@ -91,10 +91,10 @@ pub record HasFault (bytes : List ℕ) (number code : ℕ) : Type 0 where
   pub command : Command
   pub fits : Fits command
   pub more : List ℕ
-  pub next : begins.rest ≡ command_spelling command ++ more
+  pub next : begins.rest ≡ command_encoding command ++ more
   pub faults : (later : List Command) → FaultsAt (replay first_driver (begins.commands ++ command ∷ later)) number code
 
--- a replay of these bytes stops so; want of memory and the source's failure are no matter of the bytes
+-- a replay of these bytes stops so; out of memory and the source's failure are no matter of the bytes
 abbrev pub Stops : List ℕ → ReplayEnd → Type 0
 Stops bytes (Truncated at) = (at ≡ length bytes) × ((length bytes < START_BYTES) ⊎ EndsInCommand bytes)
 Stops bytes Magic = HasOtherMagic bytes
@@ -138,7 +138,7 @@ pub record ToldStream (out0 out : Option (List ℕ)) (input left : List ℕ) : T
   pub stream_is : WholeStream input left
   pub told : out ≡ append_known out0 (line_of (replay first_driver stream_is.commands))
 
--- a whole stream, and a front of the line of its replay was added
+-- a whole stream, and a prefix of the line of its replay was added
 pub record PartlyToldStream (out0 out : Option (List ℕ)) (input left : List ℕ) : Type 0 where
   pub stream_is : WholeStream input left
   pub said : ℕ

@@ -40,23 +40,23 @@ commands_of w Call.GetError = []
 
 -- the commands of a call whose refusal was judged
 abbrev pub sent_judged : PageState → Call → Bool → Option GlError → List Command
-sent_judged w call want (Some error) = []
+sent_judged w call out_of_memory (Some error) = []
 sent_judged w call true None = []
 sent_judged w call false None = commands_of w call
 
--- the commands of a call: none where it is refused or memory is wanting
+-- the commands of a call: none where it is refused or memory runs out
 abbrev pub sent : PageState → Call → Bool → List Command
-sent w call want = sent_judged w call want (refusal w call)
+sent w call out_of_memory = sent_judged w call out_of_memory (refusal w call)
 
 -- the commands of calls, in their order
 unfoldable pub all_sent : PageState → List Taken → List Command
 all_sent w [] = []
-all_sent w (t ∷ ts) = sent w t.call t.want ++ all_sent (step_taken w t).page ts
+all_sent w (t ∷ ts) = sent w t.call t.out_of_memory ++ all_sent (step_taken w t).page ts
 
 -- a call that is refused changes the error flags alone, and sends nothing
 pub record RefusedInVain (w : PageState) (t : Taken) (error : GlError) : Type 0 where
   pub page : (step_taken w t).page ≡ record w { errors = raise error w.errors }
-  pub commands : sent w t.call t.want ≡ []
+  pub commands : sent w t.call t.out_of_memory ≡ []
 
 -- so does each call that is refused among those that were taken
 unfoldable pub RefusalsChangeNothing : PageState → List Taken → Type 0

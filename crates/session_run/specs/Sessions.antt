@@ -8,12 +8,12 @@ use Rattle.wire_io.specs.declared.status.Failed.{Failed}
 use Rattle.call_records.specs.declared.calls.Call.{Call}
 use Rattle.call_records.specs.declared.replies.Reply.{Reply}
 use Rattle.call_records.specs.declared.reading.ReadEnd.{ReadEnd}
-use Rattle.call_records.specs.Records.{spelling, closing_record, Fits}
-use Rattle.call_records.specs.Replies.{reply_spelling}
+use Rattle.call_records.specs.Records.{encoding, closing_record, Fits}
+use Rattle.call_records.specs.Replies.{reply_encoding}
 use Rattle.call_records.specs.Reading.{Refuses, IsRecordEnd}
 use Rattle.gl_model.specs.PageState.{PageState, first_page}
-use Rattle.session_run.specs.PageStep.{step, MayWant, is_want}
-use Rattle.session_run.specs.PageRun.{Taken, page_after, replies, WantsAllowed}
+use Rattle.session_run.specs.PageStep.{step, MayBeOutOfMemory, is_out_of_memory}
+use Rattle.session_run.specs.PageRun.{Taken, page_after, replies, OutOfMemoryAllowed}
 use Rattle.session_run.specs.Sent.{sent, all_sent}
 use Rattle.session_run.specs.Stands.{Kept, Keeps}
 use Rattle.session_run.specs.Applied.{bytes_of}
@@ -22,11 +22,11 @@ use Rattle.session_run.specs.declared.session.RunEnd.TheVariants.{Read, Write}
 
 -- the records of calls
 abbrev pub records_of : List Taken → List ℕ
-records_of taken = flat_map spelling (map (λ t. t.call) taken)
+records_of taken = flat_map encoding (map (λ t. t.call) taken)
 
 -- the bytes of replies
 abbrev pub answers_of : List Reply → List ℕ
-answers_of answers = flat_map reply_spelling answers
+answers_of answers = flat_map reply_encoding answers
 
 -- the replies and the commands of calls that a page takes from its start
 abbrev pub answered_by : List Taken → List ℕ
@@ -38,8 +38,8 @@ sent_by taken = bytes_of (all_sent first_page taken)
 -- calls with records, of which those wanted memory whose replies say so, where that is allowed
 pub record AreTaken (taken : List Taken) : Type 0 where
   pub fits : All (λ t. Fits t.call) taken
-  pub wants : map (λ t. t.want) taken ≡ map is_want (replies first_page taken)
-  pub allowed : WantsAllowed first_page taken
+  pub out_of_memory : map (λ t. t.out_of_memory) taken ≡ map is_out_of_memory (replies first_page taken)
+  pub allowed : OutOfMemoryAllowed first_page taken
 
 -- all of these calls were answered, and all of their commands sent
 pub record Progress (out0 out stream0 stream : Option (List ℕ)) (taken : List Taken) : Type 0 where
@@ -57,24 +57,24 @@ pub record SoFar (left0 left out0 out stream0 stream : Option (List ℕ)) (kept 
 
 -- one call was answered, and its commands sent before
 pub record OneAnswered (w : PageState) (call : Call) (kept : Kept) (out0 out stream0 stream : Option (List ℕ)) : Type 0 where
-  pub want : Bool
-  pub allowed : want ≡ true → MayWant w call
-  pub said : want ≡ is_want (step w call want).reply
-  pub keeps : Keeps kept (step w call want).page
-  pub answered : out ≡ append_known out0 (reply_spelling (step w call want).reply)
-  pub sends : stream ≡ append_known stream0 (bytes_of (sent w call want))
+  pub out_of_memory : Bool
+  pub allowed : out_of_memory ≡ true → MayBeOutOfMemory w call
+  pub said : out_of_memory ≡ is_out_of_memory (step w call out_of_memory).reply
+  pub keeps : Keeps kept (step w call out_of_memory).page
+  pub answered : out ≡ append_known out0 (reply_encoding (step w call out_of_memory).reply)
+  pub sends : stream ≡ append_known stream0 (bytes_of (sent w call out_of_memory))
 
 -- a write failed in one call's commands, or in its reply once its commands were sent
 pub record OneCut (w : PageState) (call : Call) (out0 out stream0 stream : Option (List ℕ)) : Type 0 where
-  pub want : Bool
-  pub allowed : want ≡ true → MayWant w call
+  pub out_of_memory : Bool
+  pub allowed : out_of_memory ≡ true → MayBeOutOfMemory w call
   pub said : ℕ
   pub done : ℕ
-  pub said_within : said ≤ length (reply_spelling (step w call want).reply)
-  pub done_within : done ≤ length (bytes_of (sent w call want))
-  pub answered : out ≡ append_known out0 (take said (reply_spelling (step w call want).reply))
-  pub sends : stream ≡ append_known stream0 (take done (bytes_of (sent w call want)))
-  pub after : 0 < said → done ≡ length (bytes_of (sent w call want))
+  pub said_within : said ≤ length (reply_encoding (step w call out_of_memory).reply)
+  pub done_within : done ≤ length (bytes_of (sent w call out_of_memory))
+  pub answered : out ≡ append_known out0 (take said (reply_encoding (step w call out_of_memory).reply))
+  pub sends : stream ≡ append_known stream0 (take done (bytes_of (sent w call out_of_memory)))
+  pub after : 0 < said → done ≡ length (bytes_of (sent w call out_of_memory))
 
 -- one call was answered, or a write failed
 abbrev pub AnswersOne : PageState → Call → Kept → Option (List ℕ) → Option (List ℕ) → Option (List ℕ) → Option (List ℕ) → Result (Unit {0}) Failed → Type 0
@@ -97,11 +97,11 @@ pub record ReadSome (taken : List Taken) (old new : List ℕ) : Type 0 where
   pub got : List ℕ
   pub before : old ≡ records_of taken ++ (got ++ new)
 
--- the replies written are a front of those of the calls taken, and so are the commands; all replies but the last are
+-- the replies written are a prefix of those of the calls taken, and so are the commands; all replies but the last are
 -- whole, and where a call's reply is whole, its commands are
 pub record CutShort (out0 out stream0 stream : Option (List ℕ)) (taken : List Taken) : Type 0 where
   pub fits : All (λ t. Fits t.call) taken
-  pub allowed : WantsAllowed first_page taken
+  pub allowed : OutOfMemoryAllowed first_page taken
   pub said : ℕ
   pub done : ℕ
   pub said_within : said ≤ length (answered_by taken)

@@ -109,7 +109,7 @@ impl Page {
         }
     }
 
-    /// Answers a call with the step of the page's machine, and sends its commands to the driver. After Failed a front of them
+    /// Answers a call with the step of the page's machine, and sends its commands to the driver. After Failed a prefix of them
     /// was sent, and the page isn't used again.
     #[tactic(auto, using(crate::proofs::Steps::steps_applied))]
     pub fn apply<T: Sink>(&mut self, call: &Call<'_>, stream: &mut T) -> Result<Reply, Failed>

@@ -218,7 +218,7 @@ fn finish<O: Sink>(status: Status, out: &mut O) -> Status
     status
 }
 
-/// The line that tells the numbers of a replay; an error where memory is wanting.
+/// The line that tells the numbers of a replay; an error where memory runs out.
 fn line(alloc: Global, count: u64, tally: Tally) -> Result<String, AllocError>
     ensures { IfOk result (λ text. string_bytes text ≡ counts count tally) }
 {

@@ -55,7 +55,7 @@ fn run(alloc: Global, records: &[u8], room: usize) -> Result<Ran, AllocError> {
     )
 }
 
-/// Whether these records, behind `MADE`, are answered by these replies and send these commands.
+/// Whether these records, after `MADE`, are answered by these replies and send these commands.
 fn is_answered(
     alloc: Global,
     records: &[u32],
@@ -223,7 +223,7 @@ fn bytes_are_put_within_the_buffer(rt: HostRuntime) -> Result<(), Fail> {
             &[13, 12, ARRAY, 4, 7],
         ),
         (
-            "at the front",
+            "at the prefix",
             &[22, 16, ARRAY, 0, 0, 7],
             &[0, 0],
             &[13, 12, ARRAY, 0, 7],

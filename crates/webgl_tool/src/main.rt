@@ -21,7 +21,7 @@ use std::rt::Env;
 use tool::run_tool;
 use wire_io::{LazyFile, Status, StdSink, StdSource};
 
-/// The words after the program's name; Usage where one of them is no text, OutOfMemory where memory is wanting.
+/// The words after the program's name; Usage where one of them is no text, OutOfMemory where memory runs out.
 fn read_words<R: Env + AllocGlobal>(rt: &R) -> Result<Vec<String>, Status> {
     let words = match std::env::args(rt) {
         Ok(words) => words,

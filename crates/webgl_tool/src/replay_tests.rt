@@ -25,8 +25,8 @@ fn replay(alloc: Global, bytes: &[u8], reads: &[u64], calls: &[u64]) -> Result<R
     run_over(alloc, &["replay"], bytes, 64, [reads, calls, &[0]])
 }
 
-/// The first bytes of the stream, and these behind them.
-fn behind(alloc: Global, taken: usize, bytes: &[u8]) -> Result<Vec<u8>, Fail> {
+/// The first bytes of the stream, and these after them.
+fn after(alloc: Global, taken: usize, bytes: &[u8]) -> Result<Vec<u8>, Fail> {
     let mut stream = STREAM.get(..taken).ok_or("cut")?.to_vec(alloc)?;
     stream.extend_from_slice(bytes)?;
     Ok(stream)
@@ -80,7 +80,7 @@ fn a_refused_stream_is_told_where(rt: HostRuntime) -> Result<(), Fail> {
     ];
     for (taken, bytes, at, kind) in cases {
         let alloc = rt.alloc();
-        let stream = behind(alloc, taken, bytes)?;
+        let stream = after(alloc, taken, bytes)?;
         let told = replay(alloc, stream.as_slice(), &[], &[])?;
         assert!(rt;
             told.printed(Status::BadInput { at, kind }, ""),
@@ -100,7 +100,7 @@ fn the_first_command_that_has_a_fault_is_named(rt: HostRuntime) -> Result<(), Fa
     ];
     for (taken, bytes, command) in [(8, unmade, 1), (36, unmade, 3), (74, refused, 5)] {
         let alloc = rt.alloc();
-        let stream = behind(alloc, taken, bytes)?;
+        let stream = after(alloc, taken, bytes)?;
         let told = replay(alloc, stream.as_slice(), &[], &[])?;
         let status = Status::ReplayFault {
             command,
@@ -218,7 +218,7 @@ fn each_refusal_is_told_with_its_code(rt: HostRuntime) -> Result<(), Fail> {
     ];
     for (bytes, code) in cases {
         let alloc = rt.alloc();
-        let stream = behind(alloc, 74, bytes)?;
+        let stream = after(alloc, 74, bytes)?;
         let told = replay(alloc, stream.as_slice(), &[], &[])?;
         let status = Status::ReplayFault { command: 5, code };
         assert!(rt; told.printed(status, ""), "{bytes:?}");

@@ -44,7 +44,7 @@ pub fn run_tool<S: Source, O: Sink, T: Sink>(
     ensures after_read_fault { is_run (map string_bytes words.now) ≡ true → result ≡ Status.ReadFault → WhereAllTold (EndedAs Status.ReadFault) (S.left input.old) (S.left input.new) (O.held out.old) (O.held out.new) (T.held stream.old) (T.held stream.new) }
     ensures write_fault { result ≡ Status.WriteFault → Rose (O.faults out.old) (O.faults out.new) ⊎ Rose (T.faults stream.old) (T.faults stream.new) }
     ensures after_write_fault { is_run (map string_bytes words.now) ≡ true → result ≡ Status.WriteFault → WhereAllTold Stopped (S.left input.old) (S.left input.new) (O.held out.old) (O.held out.new) (T.held stream.old) (T.held stream.new) }
-    // want of memory comes before the first byte is taken
+    // out of memory comes before the first byte is taken
     ensures out_of_memory { is_run (map string_bytes words.now) ≡ true → result ≡ Status.OutOfMemory → Untouched (S.left input.old) (S.left input.new) (O.held out.old) (O.held out.new) (T.held stream.old) (T.held stream.new) }
     ensures no_replay { is_run (map string_bytes words.now) ≡ true → (command code : ℕ) → result ≡ Status.ReplayFault command code → ⊥ }
     // a whole session is answered where no object fails
@@ -56,7 +56,7 @@ pub fn run_tool<S: Source, O: Sink, T: Sink>(
     ensures replay_truncated { is_replay (map string_bytes words.now) ≡ true → (at : ℕ) → result ≡ Status.Truncated at → WhereTold (StoppedAs (Status.Truncated at)) (S.left input.old) (S.left input.new) }
     // the first command that has a fault, and which
     ensures replay_fault { is_replay (map string_bytes words.now) ≡ true → (command code : ℕ) → result ≡ Status.ReplayFault command code → WhereTold (StoppedAs (Status.ReplayFault command code)) (S.left input.old) (S.left input.new) }
-    // `out` gets the line alone, or a front of it where a write fails; `stream` gets nothing
+    // `out` gets the line alone, or a prefix of it where a write fails; `stream` gets nothing
     ensures replay_write_fault { is_replay (map string_bytes words.now) ≡ true → result ≡ Status.WriteFault → Rose (O.faults out.old) (O.faults out.new) }
     ensures after_replay_write_fault { is_replay (map string_bytes words.now) ≡ true → result ≡ Status.WriteFault → WhereTold (λ old new. (O.held out.new ≡ O.held out.old) ⊎ PartlyToldStream (O.held out.old) (O.held out.new) old new) (S.left input.old) (S.left input.new) }
     ensures replay_silent { is_replay (map string_bytes words.now) ≡ true → IsSilent result (O.held out.old) (O.held out.new) }

@@ -4,7 +4,7 @@ use Rattle.std.proofs.Math.Seq.{take-add, take-append-add}
 use Rattle.std.proofs.lemmas.List.{length-take-le, take-append-le}
 use Rattle.std.specs.Io.KnownBytes.{prepend_known, append_known}
 use Rattle.wire_io.specs.Sinks.{Sends}
-use Rattle.wire_io.proofs.Fronts.{rest_of}
+use Rattle.wire_io.proofs.Prefixes.{rest_of}
 
 -- bytes taken, and then more
 pub taken_twice : (old mid new : Option (List ℕ)) (a b : List ℕ) → old ≡ prepend_known a mid → mid ≡ prepend_known b new
@@ -24,9 +24,9 @@ pub filled_more : (old mid new : Option (List ℕ)) (filled n : ℕ) (piece part
     → old ≡ prepend_known (take (filled + n) (take filled piece ++ (part ++ rest))) new
 filled_more old mid new filled n piece part rest within fits p q =
     let whole : length (take filled piece) ≡ filled = length-take-le filled piece within in
-    let front : take (filled + n) (take filled piece ++ (part ++ rest)) ≡ take filled piece ++ take n part =
+    let prefix : take (filled + n) (take filled piece ++ (part ++ rest)) ≡ take filled piece ++ take n part =
     ap (λ k. take (k + n) (take filled piece ++ (part ++ rest))) (sym whole) ∙ take-append-add (take filled piece) (part ++ rest) n ∙ ap (λ l. take filled piece ++ l) (take-append-le n part rest fits) in
-    rw front (taken_twice old mid new _ _ p q)
+    rw prefix (taken_twice old mid new _ _ p q)
 
 -- one more part of the piece was sent
 pub sent_more : (old mid new : Option (List ℕ)) (sent n : ℕ) (piece : List ℕ)

@@ -1,4 +1,4 @@
-pub mod Fronts
+pub mod Prefixes
 pub mod Known
 pub mod Passed
 pub mod Told

@@ -3,7 +3,7 @@ use Rattle.std.proofs.Common.{◌≡◌, ℕ, ◌+◌, ◌-◌, List, [], ◌++�
 use Rattle.std.proofs.lemmas.List.{take-append-drop, drop-drop}
 use Rattle.std.specs.Io.KnownBytes.{Keeps, Appends}
 use Rattle.wire_io.specs.Buffers.{Passes}
-use Rattle.wire_io.proofs.Fronts.{rest_of}
+use Rattle.wire_io.proofs.Prefixes.{rest_of}
 
 -- one more part was sent
 pub passes_more : (old mid new : Option (List ℕ)) (waited xs : List ℕ) (s n : ℕ) → Passes old mid waited [] (drop s xs)

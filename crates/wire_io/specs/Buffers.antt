@@ -3,7 +3,7 @@ use Rattle.std.specs.Prelude.{Bool, ◌≡◌, ℕ, ◌<◌, ◌≤◌, List, []
 use Rattle.std.specs.Io.KnownBytes.{IsAtEnd}
 use Rattle.wire_io.specs.declared.buffer.TheConstants.{CAPACITY}
 
--- the bytes that wait, the room behind them, and the number of faults
+-- the bytes that wait, the room after them, and the number of faults
 pub record BufferState : Type 0 where
   pub waiting : List ℕ
   pub room : ℕ
@@ -31,7 +31,7 @@ ReadsThrough old new waited waits (Ok n) piece =
     (n ≤ length piece) × Gives old new waited (take n piece) waits × (n ≡ 0 → 0 < length piece → (waits ≡ []) × IsAtEnd new)
 ReadsThrough old new waited waits (Err e) piece = Gives old new waited [] waits
 
--- a write took a front of the piece, of one byte at least where there is one, and nothing where it failed
+-- a write took a prefix of the piece, of one byte at least where there is one, and nothing where it failed
 abbrev pub WritesThrough : {E : Type 0} → Option (List ℕ) → Option (List ℕ) → List ℕ → List ℕ → Result ℕ E → List ℕ → Type 0
 WritesThrough old new waited waits (Ok n) piece =
     (n ≤ length piece) × Passes old new waited (take n piece) waits × (0 < length piece → 0 < n)
@@ -53,4 +53,4 @@ KeepsShort old new result piece =
 pub record LazyState : Type 0 where
   pub path : List ℕ
   pub is_open : Bool
-  pub behind : BufferState
+  pub after : BufferState

@@ -3,7 +3,7 @@ ghost use Rattle.std.specs.Io.KnownBytes.{IsAtEnd};
 ghost use Rattle.wire_io.specs.Faults.{CountsErrors, HasCause};
 ghost use Rattle.wire_io.specs.Buffers.{BufferState, empty_buffer, Gives, GivesWaiting, KeepsShort, Passes, ReadsThrough, WritesThrough};
 
-use crate::copies::{copy_front, copy_rest};
+use crate::copies::{copy_prefix, copy_rest};
 use crate::status::Failed;
 use std::io::{Read, Write};
 use std::marker::Model;
@@ -34,13 +34,13 @@ impl Model for Buffer {
     ghost invariant = { λ b. (b.start ≤ b.end) × (b.end ≤ CAPACITY) };
 }
 
-/// Copies as many bytes of the piece as fit behind the first `end`, and answers how many.
+/// Copies as many bytes of the piece as fit after the first `end`, and answers how many.
 fn put_behind(bytes: &mut [u8], end: usize, piece: &[u8]) -> usize
     requires { end ≤ length bytes.old }
     ensures fits { result ≡ min (length piece.now) (length bytes.old - end) }
     ensures content { take (end + result) bytes.new ≡ take end bytes.old ++ take result piece.now }
 {
-    copy_front(piece, &mut bytes[end..])
+    copy_prefix(piece, &mut bytes[end..])
 }
 
 /// Writes the bytes from `start` on, and moves `start` past those that were taken.

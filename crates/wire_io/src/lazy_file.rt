@@ -20,7 +20,7 @@ pub struct LazyFile<'a, R: Files + Drop> {
     files: R,
     path: &'a str,
     file: Option<R::File>,
-    behind: Buffer,
+    after: Buffer,
 }
 
 impl<'a, R: Files + Drop> Model for LazyFile<'a, R> {
@@ -29,19 +29,19 @@ impl<'a, R: Files + Drop> Model for LazyFile<'a, R> {
 
     ghost Value = { LazyState };
 
-    ghost view = { λ s. record { path = s.path.now; is_open = is_some s.file; behind = s.behind } };
+    ghost view = { λ s. record { path = s.path.now; is_open = is_some s.file; after = s.after } };
 }
 
 impl<'a, R: Files + Drop> LazyFile<'a, R> {
     /// A sink over the file of this path, which isn't touched yet, without a fault.
     pub fn new(files: R, path: &'a str) -> Self
-        ensures { result ≡ record { path = path.now; is_open = false; behind = empty_buffer } }
+        ensures { result ≡ record { path = path.now; is_open = false; after = empty_buffer } }
     {
         LazyFile {
             files,
             path,
             file: None,
-            behind: Buffer::new(),
+            after: Buffer::new(),
         }
     }
 }
@@ -49,42 +49,42 @@ impl<'a, R: Files + Drop> LazyFile<'a, R> {
 impl<'a, R: Files + Drop> Sink for LazyFile<'a, R> {
     ghost held = { λ _. None };
 
-    ghost faults = { λ s. s.behind.faults };
+    ghost faults = { λ s. s.after.faults };
 
-    ghost handed_on = { λ s. s.behind.waiting ≡ [] };
+    ghost handed_on = { λ s. s.after.waiting ≡ [] };
 
     fn write(&mut self, bytes: &[u8]) -> Result<usize, Failed>
         ensures bytes { Writes None None result bytes.now }
-        ensures cause { HasCause self.old.behind.faults self.new.behind.faults result }
+        ensures cause { HasCause self.old.after.faults self.new.after.faults result }
         ensures empty { length bytes.now ≡ 0 → (result ≡ Ok 0) × (self.new ≡ self.old) }
         ensures opens { OnOk result (0 < length bytes.now → self.new.is_open ≡ true) }
         ensures stays { (self.new.path ≡ self.old.path) × (self.old.is_open ≡ true → self.new.is_open ≡ true) }
-        ensures short { self.new.is_open ≡ true → 0 < length bytes.now → KeepsShort self.old.behind self.new.behind result bytes.now }
-        ensures counted { CountsErrors self.old.behind.faults self.new.behind.faults result }
+        ensures short { self.new.is_open ≡ true → 0 < length bytes.now → KeepsShort self.old.after self.new.after result bytes.now }
+        ensures counted { CountsErrors self.old.after.faults self.new.after.faults result }
     {
         if bytes.is_empty() {
             return Ok(0);
         }
         let Some(mut file) = opened(self.file.take(), &self.files, self.path) else {
-            return Err(self.behind.fault());
+            return Err(self.after.fault());
         };
-        let result = self.behind.write_to(&mut file, bytes);
+        let result = self.after.write_to(&mut file, bytes);
         self.file = Some(file);
         result
     }
 
     fn flush(&mut self) -> Result<(), Failed>
         ensures bytes { ◌≡◌ {A = Option (List ℕ)} None None }
-        ensures cause { HasCause self.old.behind.faults self.new.behind.faults result }
-        ensures handed_on { OnOk result (self.new.behind.waiting ≡ []) }
+        ensures cause { HasCause self.old.after.faults self.new.after.faults result }
+        ensures handed_on { OnOk result (self.new.after.waiting ≡ []) }
         ensures opens { OnOk result (self.new.is_open ≡ true) }
         ensures stays { (self.new.path ≡ self.old.path) × (self.old.is_open ≡ true → self.new.is_open ≡ true) }
-        ensures counted { CountsErrors self.old.behind.faults self.new.behind.faults result }
+        ensures counted { CountsErrors self.old.after.faults self.new.after.faults result }
     {
         let Some(mut file) = opened(self.file.take(), &self.files, self.path) else {
-            return Err(self.behind.fault());
+            return Err(self.after.fault());
         };
-        let result = self.behind.flush_to(&mut file);
+        let result = self.after.flush_to(&mut file);
         self.file = Some(file);
         result
     }

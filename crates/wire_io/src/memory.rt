@@ -4,7 +4,7 @@ ghost use Rattle.wire_io.specs.Sources.{Reads};
 ghost use Rattle.wire_io.specs.Sinks.{Writes};
 ghost use Rattle.wire_io.specs.Memory.{SourceState, SinkState};
 
-use crate::copies::{copy_front, copy_rest};
+use crate::copies::{copy_prefix, copy_rest};
 use crate::sink::Sink;
 use crate::source::Source;
 use crate::status::Failed;
@@ -57,7 +57,7 @@ impl Source for MemSource {
         ensures cause { HasCause self.old.faults self.new.faults result }
         ensures listed { IsErr result ↔ Contains self.old.fail self.old.calls }
         ensures most { IfOk result (λ n. n ≡ min (length self.old.left) (length into.old)) }
-        ensures behind { IfOk result (λ n. drop n into.new ≡ drop n into.old) }
+        ensures after { IfOk result (λ n. drop n into.new ≡ drop n into.old) }
         ensures untouched { OnErr result (into.new ≡ into.old) }
         ensures stays { self.new.fail ≡ self.old.fail }
         ensures called { self.new.calls ≡ min (self.old.calls + 1) (2 ^ 64 - 1) }
@@ -159,7 +159,7 @@ impl Sink for MemSink {
         if self.count_call() || (!bytes.is_empty() && self.len == self.room.len()) {
             return Err(self.fault());
         }
-        let n = copy_front(bytes, &mut self.room.as_mut_slice()[self.len..]);
+        let n = copy_prefix(bytes, &mut self.room.as_mut_slice()[self.len..]);
         self.len += n;
         Ok(n)
     }

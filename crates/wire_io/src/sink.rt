@@ -29,7 +29,7 @@ pub trait Sink {
         ensures handed_on { OnOk result (handed_on self.new) };
 }
 
-/// Writes until all of the bytes are taken; after Failed a front of them was appended.
+/// Writes until all of the bytes are taken; after Failed a prefix of them was appended.
 pub fn write_all<K: Sink>(bytes: &[u8], out: &mut K) -> Result<(), Failed>
     ensures bytes { Sends (K.held out.old) (K.held out.new) result bytes.now }
     ensures cause { HasCause (K.faults out.old) (K.faults out.new) result }

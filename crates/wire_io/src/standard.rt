@@ -62,7 +62,7 @@ impl Source for StdSource {
 #[derive(Drop)]
 pub struct StdSink {
     output: Stdout,
-    behind: Buffer,
+    after: Buffer,
 }
 
 impl Model for StdSink {
@@ -70,7 +70,7 @@ impl Model for StdSink {
 
     ghost Value = { BufferState };
 
-    ghost view = { λ s. s.behind };
+    ghost view = { λ s. s.after };
 }
 
 impl StdSink {
@@ -80,7 +80,7 @@ impl StdSink {
     {
         StdSink {
             output,
-            behind: Buffer::new(),
+            after: Buffer::new(),
         }
     }
 }
@@ -98,7 +98,7 @@ impl Sink for StdSink {
         ensures short { KeepsShort self.old self.new result bytes.now }
         ensures counted { CountsErrors self.old.faults self.new.faults result }
     {
-        self.behind.write_to(&mut self.output, bytes)
+        self.after.write_to(&mut self.output, bytes)
     }
 
     fn flush(&mut self) -> Result<(), Failed>
@@ -107,6 +107,6 @@ impl Sink for StdSink {
         ensures handed_on { OnOk result (self.new.waiting ≡ []) }
         ensures counted { CountsErrors self.old.faults self.new.faults result }
     {
-        self.behind.flush_to(&mut self.output)
+        self.after.flush_to(&mut self.output)
     }
 }

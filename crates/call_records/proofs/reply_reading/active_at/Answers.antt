@@ -1,8 +1,8 @@
 -- The value is there, or nothing begins the bytes.
 use Rattle.std.proofs.Common.{◌++◌, ◌∙◌, refl, length}
 use Rattle.gl_numbers.specs.Bytes.{le32}
-use Rattle.wire_io.proofs.Fronts.{rest_of}
-use Rattle.call_records.proofs.ReplyFronts.{no_words, after_two}
+use Rattle.wire_io.proofs.Prefixes.{rest_of}
+use Rattle.call_records.proofs.ReplyPrefixes.{no_words, after_two}
 use Rattle.call_records.proofs.reply_reading.active_at.Goals as goal
 
 pub returns-then-bytes-lt8-clause-none : goal.returns-then-bytes-lt8-clause-none

@@ -2,8 +2,8 @@
 use Rattle.std.proofs.Common.{length, lit<, ap, ◌∙◌}
 use Rattle.std.specs.List.{flat_map}
 use Rattle.gl_numbers.specs.Bytes.{le32}
-use Rattle.wire_io.proofs.Fronts.{rest_of}
-use Rattle.call_records.proofs.ReplyFronts.{no_word, no_count, no_part, length-words, list_size, held_front}
+use Rattle.wire_io.proofs.Prefixes.{rest_of}
+use Rattle.call_records.proofs.ReplyPrefixes.{no_word, no_count, no_part, length-words, list_size, held_prefix}
 use Rattle.call_records.proofs.reply_reading.list_at.Goals as goal
 
 pub returns-then-bytes-lt4-clause-none : goal.returns-then-bytes-lt4-clause-none
@@ -19,4 +19,4 @@ returns-then-rest-count-clause-none c =
 
 pub returns-clause-size : goal.returns-clause-size
 returns-clause-size c =
-    list_size c.in-Some.words c.u32_at-count.result (ap length c.in-Some.ensures.value ∙ held_front c.take_words.new.into _ c.u32_at-count.result c.take_words.ensures.count c.if-count-gt-WORDS.false)
+    list_size c.in-Some.words c.u32_at-count.result (ap length c.in-Some.ensures.value ∙ held_prefix c.take_words.new.into _ c.u32_at-count.result c.take_words.ensures.count c.if-count-gt-WORDS.false)

@@ -1,8 +1,8 @@
 -- Nothing begins the bytes.
 use Rattle.std.proofs.Common.{refl, ◌∙◌}
-use Rattle.wire_io.proofs.Fronts.{rest_of}
+use Rattle.wire_io.proofs.Prefixes.{rest_of}
 use Rattle.call_records.specs.Replies.{tag_of, content_of}
-use Rattle.call_records.proofs.ReplyFronts.{no_words, no_reply}
+use Rattle.call_records.proofs.ReplyPrefixes.{no_words, no_reply}
 use Rattle.call_records.proofs.reply_reading.read_reply.Goals as goal
 
 pub returns-then-bytes-lt8-clause-none : goal.returns-then-bytes-lt8-clause-none

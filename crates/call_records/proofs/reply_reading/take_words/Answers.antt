@@ -1,8 +1,8 @@
 -- One more word was read.
 use Rattle.std.proofs.Common.{◌∙◌, ◌*◌, arith}
 use Rattle.std.proofs.lemmas.List.{length-set}
-use Rattle.wire_io.proofs.Fronts.{rest_of}
-use Rattle.call_records.proofs.ReplyFronts.{words_more}
+use Rattle.wire_io.proofs.Prefixes.{rest_of}
+use Rattle.call_records.proofs.ReplyPrefixes.{words_more}
 use Rattle.call_records.proofs.reply_reading.take_words.Goals as goal
 
 pub loop-i-preserved : goal.loop-i-preserved

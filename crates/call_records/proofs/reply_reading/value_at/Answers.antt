@@ -1,5 +1,5 @@
 -- A number that is cut short.
-use Rattle.call_records.proofs.ReplyFronts.{no_number}
+use Rattle.call_records.proofs.ReplyPrefixes.{no_number}
 use Rattle.call_records.proofs.reply_reading.value_at.Goals as goal
 
 pub returns-then-bytes-lt4-clause-none : goal.returns-then-bytes-lt4-clause-none

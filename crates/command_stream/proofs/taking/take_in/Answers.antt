@@ -1,6 +1,6 @@
 use Rattle.std.proofs.Common.{◌≡◌, ◌-◌, ◌≤◌, take, drop, length, ◌∙◌, arith}
 use Rattle.std.proofs.lemmas.List.{take_rest, length-drop}
-use Rattle.command_stream.proofs.Pieces.{taken-behind-start, behind}
+use Rattle.command_stream.proofs.Pieces.{taken-after-start, after}
 use Rattle.command_stream.proofs.taking.take_in.Goals as goal
 
 pub returns-in-Whole : goal.returns-in-Whole
@@ -12,11 +12,11 @@ returns-in-Whole c =
       c.in-Whole.ensures.1,
       omega (arith, more, length-drop c.in-Finished.n c.args.piece.now, c.in-Finished.ensures.0),
       omega (arith, c.in-Whole.ensures.3),
-      taken-behind-start (take c.args.held c.args.bytes.now) c.args.piece.now c.in-Finished.n c.in-Whole.more c.in-Finished.ensures.1 ∙ (rw rest at c.in-Whole.ensures.4),
+      taken-after-start (take c.args.held c.args.bytes.now) c.args.piece.now c.in-Finished.n c.in-Whole.more c.in-Finished.ensures.1 ∙ (rw rest at c.in-Whole.ensures.4),
       c.in-Whole.ensures.5,
     )
 
 pub returns-in_default : goal.returns-in_default
 returns-in_default c =
     let rest : take (length c.args.piece.now - c.in-Finished.n) (drop c.in-Finished.n c.args.piece.now) ≡ drop c.in-Finished.n c.args.piece.now = take_rest c.args.piece.now c.in-Finished.n in
-    rw c.if-started.false (behind c.args.piece.now c.args.bytes.now _ c.args.held c.in-Finished.n _ c.in-Finished.ensures.1 (rw rest at c.take_command-in-Finished.ensures) c.in_default.not-Whole)
+    rw c.if-started.false (after c.args.piece.now c.args.bytes.now _ c.args.held c.in-Finished.n _ c.in-Finished.ensures.1 (rw rest at c.take_command-in-Finished.ensures) c.in_default.not-Whole)

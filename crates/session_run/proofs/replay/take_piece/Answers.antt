@@ -1,7 +1,7 @@
 -- What a step took of the piece joins what was taken of it before.
 use Rattle.std.proofs.Common.{◌++◌, length, take, arith, ap, subst, length-append}
 use Rattle.std.proofs.lemmas.List.{length-take-le, length-drop}
-use Rattle.wire_io.proofs.Fronts.{rest_of}
+use Rattle.wire_io.proofs.Prefixes.{rest_of}
 use Rattle.session_run.specs.Playing.{SoFar, PieceStops}
 use Rattle.session_run.proofs.Playing.{bounds, piece-more, piece-rest}
 use Rattle.session_run.proofs.replay.take_piece.Goals as goal

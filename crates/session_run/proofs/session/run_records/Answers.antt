@@ -1,6 +1,6 @@
 -- Each call that is read and answered joins those that were taken.
 use Rattle.std.proofs.Common.{arith, ◌≤◌, ◌+◌, ◌^◌, length}
-use Rattle.call_records.specs.Records.{spelling}
+use Rattle.call_records.specs.Records.{encoding}
 use Rattle.session_run.proofs.Cutting.{cut_short}
 use Rattle.session_run.proofs.Looping.{begins, goes_on, nearer}
 use Rattle.session_run.proofs.session.run_records.Goals as goal
@@ -16,13 +16,13 @@ loop-call-init g c = record {
 
 pub loop-call-smaller : goal.loop-call-smaller
 loop-call-smaller g c =
-    let size : length (spelling c.in-Ok-Call.call) ≤ 16777288 = rw c.in-Ok-Call.field-0-is at c.in-Ok-Call.ensures.size in
+    let size : length (encoding c.in-Ok-Call.call) ≤ 16777288 = rw c.in-Ok-Call.field-0-is at c.in-Ok-Call.ensures.size in
     let room : c.loop-call.at + 8 ≤ 2 ^ 62 = c.in-Ok-Call.ensures.room in
     nearer c.loop-call.at c.size.result c.in-Ok-Call.call c.size.ensures (omega (arith, size, room, c.size.ensures))
 
 pub loop-call-preserved : goal.loop-call-preserved
 loop-call-preserved g c =
-    let size : length (spelling c.in-Ok-Call.call) ≤ 16777288 = rw c.in-Ok-Call.field-0-is at c.in-Ok-Call.ensures.size in
+    let size : length (encoding c.in-Ok-Call.call) ≤ 16777288 = rw c.in-Ok-Call.field-0-is at c.in-Ok-Call.ensures.size in
     let room : c.loop-call.at + 8 ≤ 2 ^ 62 = c.in-Ok-Call.ensures.room in
     let so_far = c.loop-call.invariant.so_far in
     record {

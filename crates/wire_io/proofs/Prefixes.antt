@@ -1,4 +1,4 @@
--- Lists taken apart at a front.
+-- Lists taken apart at a prefix.
 use Rattle.std.proofs.Common.{◌≡◌, ℕ, ◌+◌, ◌-◌, ◌<◌, List, [], ◌++◌, min, length, take, drop, arith, sym, ap, length-drop}
 use Rattle.std.proofs.lemmas.List.{take_all, take-append-drop, drop-drop, drop_all}
 
@@ -6,10 +6,10 @@ use Rattle.std.proofs.lemmas.List.{take_all, take-append-drop, drop-drop, drop_a
 pub rest_of : (n : ℕ) (xs : List ℕ) → take (length xs - n) (drop n xs) ≡ drop n xs
 rest_of n xs = take_all (length xs - n) (drop n xs) (omega (arith, length-drop n xs))
 
--- what lies from `next` on is the front that was copied, and then what lies past it
-pub took_front : (xs : List ℕ) (next n : ℕ) (piece : List ℕ) → take n piece ≡ take n (take (length xs - next) (drop next xs))
+-- what lies from `next` on is the prefix that was copied, and then what lies past it
+pub took_prefix : (xs : List ℕ) (next n : ℕ) (piece : List ℕ) → take n piece ≡ take n (take (length xs - next) (drop next xs))
     → drop next xs ≡ take n piece ++ drop (next + n) xs
-took_front xs next n piece e =
+took_prefix xs next n piece e =
     rw (e, rest_of next xs, ← drop-drop n next xs) (sym (take-append-drop n (drop next xs)))
 
 -- where nothing could be copied into a piece that isn't empty, nothing is left

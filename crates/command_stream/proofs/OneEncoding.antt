@@ -11,10 +11,10 @@ use Rattle.gl_numbers.proofs.Bytes.{Same, le32-one, drop-le32}
 use Rattle.command_stream.specs.declared.operation.TheConstants.{MAKE_BUFFER, DROP_BUFFER, BIND_BUFFER, BUFFER_SIZE}
 use Rattle.command_stream.specs.declared.command.Command.{Command}
 use Rattle.command_stream.specs.declared.command.Command.TheVariants.{MakeBuffer, DropBuffer, BindBuffer, BufferSize, BufferBytes}
-use Rattle.command_stream.specs.Commands.{op_of, body_of, command_spelling, stream_start, stream}
+use Rattle.command_stream.specs.Commands.{op_of, body_of, command_encoding, stream_start, stream}
 use Rattle.command_stream.specs.Plain.{HasWords, Fits, plain}
 
--- the word at the front of a list
+-- the word at the prefix of a list
 word_at : List ℕ → ℕ
 word_at xs = from_le_bytes w32 (take 4 xs)
 
@@ -65,14 +65,14 @@ pub record SameParts (op op' : ℕ) (body body' x y : List ℕ) : Type 0 where
   pub same_body : body ≡ body'
   pub rest : x ≡ y
 
--- lists of one length at the fronts of equal lists
+-- lists of one length at the prefixes of equal lists
 pub same_fronts : (xs ys x y : List ℕ) → length xs ≡ length ys → xs ++ x ≡ ys ++ y → (xs ≡ ys) × (x ≡ y)
 same_fronts xs ys x y l e =
-    let front : xs ≡ ys = sym (take-append_seam xs x) ∙ ap (take (length xs)) e ∙ ap (λ n. take n (ys ++ y)) l ∙ take-append_seam ys y in
+    let prefix : xs ≡ ys = sym (take-append_seam xs x) ∙ ap (take (length xs)) e ∙ ap (λ n. take n (ys ++ y)) l ∙ take-append_seam ys y in
     let back : x ≡ y = sym (drop-append_seam xs x) ∙ ap (drop (length xs)) e ∙ ap (λ n. drop n (ys ++ y)) l ∙ drop-append_seam ys y in
-    (front, back)
+    (prefix, back)
 
--- a spelling of an operation and a body at the front of a list is one of these
+-- a encoding of an operation and a body at the prefix of a list is one of these
 pub parts-one : (op op' : ℕ) (body body' x y : List ℕ) → op < 2 ^ 32 → op' < 2 ^ 32 → length body < 2 ^ 32 → length body' < 2 ^ 32
     → (le32 op ++ (le32 (length body) ++ body)) ++ x ≡ (le32 op' ++ (le32 (length body') ++ body')) ++ y
     → SameParts op op' body body' x y
@@ -86,10 +86,10 @@ parts-one op op' body body' x y op_fits op'_fits fits fits' e =
     let last : (body ≡ body') × (x ≡ y) = same_fronts body body' x y second.word second.rest in
     record { same_op = first.word; same_body = last.0; rest = last.1 }
 
--- two fitting commands whose spellings begin one list are one command
-pub command_spelling-one : (a b : Command) (x y : List ℕ) → Fits a → Fits b → command_spelling a ++ x ≡ command_spelling b ++ y
+-- two fitting commands whose encodings begin one list are one command
+pub command_encoding-one : (a b : Command) (x y : List ℕ) → Fits a → Fits b → command_encoding a ++ x ≡ command_encoding b ++ y
     → SameCommand a b x y
-command_spelling-one a b x y fits_a fits_b e =
+command_encoding-one a b x y fits_a fits_b e =
     let short_a : length (body_of a) < 2 ^ 32 = omega (arith, fits_a.body) in
     let short_b : length (body_of b) < 2 ^ 32 = omega (arith, fits_b.body) in
     let same : SameParts (op_of a) (op_of b) (body_of a) (body_of b) x y =
@@ -99,24 +99,24 @@ command_spelling-one a b x y fits_a fits_b e =
       rest = same.rest;
     }
 
--- no spelling is empty
-pub spelling-some : (c : Command) (x : List ℕ) → [] ≡ command_spelling c ++ x → ⊥
+-- no encoding is empty
+pub encoding-some : (c : Command) (x : List ℕ) → [] ≡ command_encoding c ++ x → ⊥
 unfolding le32
-spelling-some c x e = cc
+encoding-some c x e = cc
 
 -- two lists of fitting commands with one list of bytes are one list of commands
-commands-one : (a b : List Command) → All Fits a → All Fits b → flat_map command_spelling a ≡ flat_map command_spelling b
+commands-one : (a b : List Command) → All Fits a → All Fits b → flat_map command_encoding a ≡ flat_map command_encoding b
     → map plain a ≡ map plain b
 commands-one [] [] fits_a fits_b e = refl
-commands-one [] (d ∷ b) fits_a fits_b e = absurd (spelling-some d (flat_map command_spelling b) e)
-commands-one (c ∷ a) [] fits_a fits_b e = absurd (spelling-some c (flat_map command_spelling a) (sym e))
+commands-one [] (d ∷ b) fits_a fits_b e = absurd (encoding-some d (flat_map command_encoding b) e)
+commands-one (c ∷ a) [] fits_a fits_b e = absurd (encoding-some c (flat_map command_encoding a) (sym e))
 commands-one (c ∷ a) (d ∷ b) fits_a fits_b e =
-    let same : SameCommand c d (flat_map command_spelling a) (flat_map command_spelling b) =
-    command_spelling-one c d _ _ (All-head Fits c a fits_a) (All-head Fits d b fits_b) e in
+    let same : SameCommand c d (flat_map command_encoding a) (flat_map command_encoding b) =
+    command_encoding-one c d _ _ (All-head Fits c a fits_a) (All-head Fits d b fits_b) e in
     let more : map plain a ≡ map plain b = commands-one a b (All-tail Fits c a fits_a) (All-tail Fits d b fits_b) same.rest in
     ap (λ h. h ∷ map plain a) same.command ∙ ap (λ t. plain d ∷ t) more
 
 -- two streams with the same bytes have the same commands
 pub stream-one : (a b : List Command) → All Fits a → All Fits b → stream a ≡ stream b → map plain a ≡ map plain b
 stream-one a b fits_a fits_b e =
-    commands-one a b fits_a fits_b (append_cancel_left stream_start (flat_map command_spelling a) (flat_map command_spelling b) e)
+    commands-one a b fits_a fits_b (append_cancel_left stream_start (flat_map command_encoding a) (flat_map command_encoding b) e)

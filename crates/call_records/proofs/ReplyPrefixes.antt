@@ -12,7 +12,7 @@ use Rattle.call_records.specs.declared.replies.Value as Values
 use Rattle.call_records.specs.declared.replies.Value.TheVariants.{Nothing, Number, Text, Active}
 use Rattle.call_records.specs.declared.replies.Value.TheVariants as Value
 use Rattle.call_records.specs.declared.replies.Reply.{Reply}
-use Rattle.call_records.specs.Replies.{tag_of, content_of, reply_spelling, IsValue, IsReply}
+use Rattle.call_records.specs.Replies.{tag_of, content_of, reply_encoding, IsValue, IsReply}
 
 -- four bytes a word
 pub length-words : (words : List ℕ) → length (flat_map le32 words) ≡ 4 * length words
@@ -26,11 +26,11 @@ pub list_size : (words : List ℕ) (n : ℕ) → length words ≡ n → 4 + 4 * 
 list_size words n e =
     omega (arith, e, length-append (le32 (length words)) (flat_map le32 words), length-le32 (length words), length-words words)
 
--- a front that was filled is as long as before
-pub held_front : (into held : List ℕ) (n : ℕ) → length into ≡ length (take n held) → n ≤ length held → length (take n (into ++ drop n held)) ≡ n
-held_front into held n e within =
-    let front : length into ≡ n = e ∙ length-take-le n held within in
-    length-take-le n (into ++ drop n held) (omega (arith, front, length-append into (drop n held)))
+-- a prefix that was filled is as long as before
+pub held_prefix : (into held : List ℕ) (n : ℕ) → length into ≡ length (take n held) → n ≤ length held → length (take n (into ++ drop n held)) ≡ n
+held_prefix into held n e within =
+    let prefix : length into ≡ n = e ∙ length-take-le n held within in
+    length-take-le n (into ++ drop n held) (omega (arith, prefix, length-append into (drop n held)))
 
 -- one more word
 pub words-suc : (into : List ℕ) (i word : ℕ) → i < length into → flat_map le32 (take (i + 1) (set into i word)) ≡ flat_map le32 (take i into) ++ le32 word
@@ -45,32 +45,32 @@ pub words_more : (bytes into : List ℕ) (i word : ℕ) → i < length into → 
     → bytes ≡ flat_map le32 (take (i + 1) (set into i word)) ++ drop (4 * (i + 1)) bytes
 words_more bytes into i word in_range e p =
     let left : drop 4 (drop (4 * i) bytes) ≡ drop (4 * (i + 1)) bytes = drop-drop 4 (4 * i) bytes ∙ ap (λ k. drop k bytes) (omega arith) in
-    let front : (flat_map le32 (take i into) ++ le32 word) ++ drop (4 * (i + 1)) bytes ≡ flat_map le32 (take (i + 1) (set into i word)) ++ drop (4 * (i + 1)) bytes =
+    let prefix : (flat_map le32 (take i into) ++ le32 word) ++ drop (4 * (i + 1)) bytes ≡ flat_map le32 (take (i + 1) (set into i word)) ++ drop (4 * (i + 1)) bytes =
     ap (λ l. l ++ drop (4 * (i + 1)) bytes) (sym (words-suc into i word in_range)) in
-    e ∙ ap (λ l. flat_map le32 (take i into) ++ l) (p ∙ ap (λ l. le32 word ++ l) left) ∙ sym (append_assoc (flat_map le32 (take i into)) (le32 word) (drop (4 * (i + 1)) bytes)) ∙ front
+    e ∙ ap (λ l. flat_map le32 (take i into) ++ l) (p ∙ ap (λ l. le32 word ++ l) left) ∙ sym (append_assoc (flat_map le32 (take i into)) (le32 word) (drop (4 * (i + 1)) bytes)) ∙ prefix
 
 -- a word, and then a part
-pub one_front : (bytes part : List ℕ) (a size : ℕ) → bytes ≡ le32 a ++ drop 4 bytes → drop 4 bytes ≡ part ++ drop size (drop 4 bytes)
+pub one_prefix : (bytes part : List ℕ) (a size : ℕ) → bytes ≡ le32 a ++ drop 4 bytes → drop 4 bytes ≡ part ++ drop size (drop 4 bytes)
     → bytes ≡ (le32 a ++ part) ++ drop (4 + size) bytes
-one_front bytes part a size p q =
+one_prefix bytes part a size p q =
     p ∙ ap (λ l. le32 a ++ l) q ∙ sym (append_assoc (le32 a) part (drop size (drop 4 bytes))) ∙ ap (λ l. (le32 a ++ part) ++ l) (drop-drop size 4 bytes)
 
 -- two words, and then a part
-pub two_front : (bytes part : List ℕ) (a b size : ℕ) → bytes ≡ le32 a ++ drop 4 bytes → drop 4 bytes ≡ le32 b ++ drop 4 (drop 4 bytes)
+pub two_prefix : (bytes part : List ℕ) (a b size : ℕ) → bytes ≡ le32 a ++ drop 4 bytes → drop 4 bytes ≡ le32 b ++ drop 4 (drop 4 bytes)
     → drop 8 bytes ≡ part ++ drop size (drop 8 bytes) → bytes ≡ (le32 a ++ (le32 b ++ part)) ++ drop (8 + size) bytes
-two_front bytes part a b size p q r =
+two_prefix bytes part a b size p q r =
     let inner : drop 4 bytes ≡ (le32 b ++ part) ++ drop (4 + size) (drop 4 bytes) =
-    one_front (drop 4 bytes) part b size q (drop-drop 4 4 bytes ∙ r ∙ ap (λ l. part ++ drop size l) (sym (drop-drop 4 4 bytes))) in
+    one_prefix (drop 4 bytes) part b size q (drop-drop 4 4 bytes ∙ r ∙ ap (λ l. part ++ drop size l) (sym (drop-drop 4 4 bytes))) in
     let wide : 4 + (4 + size) ≡ 8 + size = omega arith in
-    rw (← wide) (one_front bytes (le32 b ++ part) a (4 + size) p inner)
+    rw (← wide) (one_prefix bytes (le32 b ++ part) a (4 + size) p inner)
 
 -- a name, after its length
-pub name_front : (bytes name : List ℕ) (n : ℕ) → bytes ≡ le32 n ++ drop 4 bytes → n ≤ length (drop 4 bytes) → name ≡ take n (drop 4 bytes)
+pub name_prefix : (bytes name : List ℕ) (n : ℕ) → bytes ≡ le32 n ++ drop 4 bytes → n ≤ length (drop 4 bytes) → name ≡ take n (drop 4 bytes)
     → bytes ≡ (le32 (length name) ++ name) ++ drop (4 + n) bytes
-name_front bytes name n p within e =
+name_prefix bytes name n p within e =
     let size : length name ≡ n = ap length e ∙ length-take-le n (drop 4 bytes) within in
     let part : drop 4 bytes ≡ name ++ drop n (drop 4 bytes) = rw e (sym (take-append-drop n (drop 4 bytes))) in
-    rw size (one_front bytes name n n p part)
+    rw size (one_prefix bytes name n n p part)
 
 -- what stands after the first word
 pub after_one : (bytes part rest : List ℕ) (a : ℕ) → bytes ≡ (le32 a ++ part) ++ rest → drop 4 bytes ≡ part ++ rest
@@ -133,7 +133,7 @@ no_number bytes tag short t (Active size kind name) rest same e = absurd (omega 
 -- a value that doesn't begin the bytes after the code and the tag
 pub no_reply : (bytes : List ℕ) (raised tag : ℕ) → tag < 2 ^ 32 → bytes ≡ le32 raised ++ drop 4 bytes → drop 4 bytes ≡ le32 tag ++ drop 4 (drop 4 bytes)
     → ((value : Values.Value) (rest : List ℕ) → IsValue value → tag_of value ≡ tag → drop 8 bytes ≡ content_of value ++ rest → ⊥)
-    → (reply : Reply) (rest : List ℕ) → IsReply reply → bytes ≡ reply_spelling reply ++ rest → ⊥
+    → (reply : Reply) (rest : List ℕ) → IsReply reply → bytes ≡ reply_encoding reply ++ rest → ⊥
 no_reply bytes raised tag p e f none reply rest is g =
     let tagged = after_one bytes (le32 (tag_of reply.value) ++ content_of reply.value) rest reply.raised g in
     let same = word_one (drop 4 bytes) (content_of reply.value) rest tag (tag_of reply.value) p (tag_fits reply.value) f tagged in

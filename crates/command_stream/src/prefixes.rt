@@ -1,7 +1,7 @@
 ghost use Rattle.std.specs.Prelude.{◌≡◌, ◌++◌};
 ghost use Rattle.gl_numbers.specs.Bytes.{le32};
 ghost use Rattle.command_stream.specs.declared.command.Command.TheVariants.{MakeBuffer, DropBuffer, BindBuffer, BufferSize, BufferBytes};
-ghost use Rattle.command_stream.specs.Commands.{Allowed, command_spelling, stream_start};
+ghost use Rattle.command_stream.specs.Commands.{Allowed, command_encoding, stream_start};
 
 use crate::operation::{Operation, STREAM_VERSION};
 use gl_numbers::{four_words, three_words};
@@ -33,7 +33,7 @@ fn five_words(a: u32, b: u32, c: u32, d: u32, e: u32) -> [u8; 20]
 /// The whole of a MakeBuffer.
 #[tactic(auto, unfolding(gl_numbers::specs::Bytes::le32))]
 pub fn make_buffer(name: u32) -> [u8; 12]
-    ensures { result ≡ command_spelling (MakeBuffer name) }
+    ensures { result ≡ command_encoding (MakeBuffer name) }
 {
     let op = Operation::MakeBuffer;
     three_words(op.number(), op.field_bytes(), name)
@@ -42,7 +42,7 @@ pub fn make_buffer(name: u32) -> [u8; 12]
 /// The whole of a DropBuffer.
 #[tactic(auto, unfolding(gl_numbers::specs::Bytes::le32))]
 pub fn drop_buffer(name: u32) -> [u8; 12]
-    ensures { result ≡ command_spelling (DropBuffer name) }
+    ensures { result ≡ command_encoding (DropBuffer name) }
 {
     let op = Operation::DropBuffer;
     three_words(op.number(), op.field_bytes(), name)
@@ -51,7 +51,7 @@ pub fn drop_buffer(name: u32) -> [u8; 12]
 /// The whole of a BindBuffer.
 #[tactic(auto, unfolding(gl_numbers::specs::Bytes::le32))]
 pub fn bind_buffer(target: u32, name: u32) -> [u8; 16]
-    ensures { result ≡ command_spelling (BindBuffer target name) }
+    ensures { result ≡ command_encoding (BindBuffer target name) }
 {
     let op = Operation::BindBuffer;
     four_words(op.number(), op.field_bytes(), target, name)
@@ -60,7 +60,7 @@ pub fn bind_buffer(target: u32, name: u32) -> [u8; 16]
 /// The whole of a BufferSize.
 #[tactic(auto, unfolding(gl_numbers::specs::Bytes::le32))]
 pub fn buffer_size(target: u32, usage: u32, size: u32) -> [u8; 20]
-    ensures { result ≡ command_spelling (BufferSize target usage size) }
+    ensures { result ≡ command_encoding (BufferSize target usage size) }
 {
     let op = Operation::BufferSize;
     five_words(op.number(), op.field_bytes(), target, usage, size)
@@ -70,7 +70,7 @@ pub fn buffer_size(target: u32, usage: u32, size: u32) -> [u8; 20]
 #[tactic(auto, unfolding(gl_numbers::specs::Bytes::le32))]
 pub fn buffer_bytes(target: u32, offset: u32, bytes: &[u8]) -> [u8; 16]
     requires { Allowed (BufferBytes target offset bytes) }
-    ensures { result ++ bytes.now ≡ command_spelling (BufferBytes target offset bytes.entry) }
+    ensures { result ++ bytes.now ≡ command_encoding (BufferBytes target offset bytes.entry) }
 {
     let op = Operation::BufferBytes;
     four_words(
