@@ -1,0 +1,12 @@
+pub mod Row
+pub mod ObjectRows
+pub mod BufferRows
+pub mod QueryRows
+pub mod PageStep
+pub mod PageRun
+pub mod Sent
+pub mod Stands
+pub mod Follows
+pub mod Deeds
+pub mod Steps
+pub mod Codes
