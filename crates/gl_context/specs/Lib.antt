@@ -6,7 +6,10 @@ pub mod PageStep
 pub mod PageRun
 pub mod Sent
 pub mod Stands
+pub mod Tied
 pub mod Follows
+pub mod Filled
 pub mod Deeds
 pub mod Steps
+pub mod Opening
 pub mod Codes
