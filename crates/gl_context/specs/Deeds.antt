@@ -1,0 +1,28 @@
+-- What a call did, before anything was sent: it acted by its row, or it is refused, or memory ran out.
+use Rattle.std.specs.Prelude.{◌≡◌, ◌⊎◌, Option, Some, None, List, [], ◌∷◌, Result, Ok, Err}
+use Rattle.gl_numbers.specs.declared.errors.GlError.{GlError}
+use Rattle.gl_numbers.specs.declared.errors.GlError.TheVariants.{Memory}
+use Rattle.command_stream.specs.declared.command.Command.{Command}
+use Rattle.gl_model.specs.PageState.{PageState}
+use Rattle.gl_context.specs.Row.{Row, refusal_of}
+use Rattle.gl_context.specs.PageStep.{MayRunOut}
+use Rattle.gl_context.specs.Stands.{Kept, Keeps}
+use Rattle.gl_context.specs.declared.deed.Deed.{Deed}
+use Rattle.gl_context.specs.declared.deed.Sends as Sending
+use Rattle.gl_context.specs.declared.deed.Sends.TheVariants.{Nothing, One, Two}
+
+-- the commands that are to be sent
+abbrev pub commands_in : Sending.Sends → List Command
+commands_in Nothing = []
+commands_in (One command) = command ∷ []
+commands_in (Two first second) = first ∷ second ∷ []
+
+-- why a call raises an error: its row refuses it, or memory ran out
+abbrev pub HasReason : Row → GlError → Type 0
+HasReason row error = (refusal_of row ≡ Some error) ⊎ ((error ≡ Memory) × MayRunOut row)
+
+-- a call acted by its row, or raises an error and nothing else was changed
+abbrev pub ActsBy : Row → PageState → Kept → Result Deed GlError → Type 0
+ActsBy row w kept (Ok deed) =
+    (refusal_of row ≡ None) × Keeps kept row.next × (deed.value ≡ row.value) × (commands_in deed.sends ≡ row.commands)
+ActsBy row w kept (Err error) = HasReason row error × Keeps kept w

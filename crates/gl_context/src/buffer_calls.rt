@@ -1,0 +1,190 @@
+ghost use Rattle.std.specs.Prelude.{◌≡◌, false, Ok, IfOk, IfSome, IsSome, ◌==◌, if◌then◌else◌};
+ghost use Rattle.std.specs.FinMap.{get};
+ghost use Rattle.gl_numbers.specs.BufferWords.{usage_word, buffer_size};
+ghost use Rattle.gl_model.specs.PageState.{PageState};
+ghost use Rattle.call_records.specs.Records.{Fits};
+ghost use Rattle.call_records.specs.declared.calls.Call.TheVariants.{Buffer};
+ghost use Rattle.call_records.specs.declared.buffer_calls.BufferCall.TheVariants.{BufferData, BufferSubData};
+ghost use Rattle.gl_context.specs.BufferRows.{buffer_row, bind_row, data_row, sub_data_row, parameter_row, part_sent};
+ghost use Rattle.buffer_store.specs.Content.{HasShortBytes};
+ghost use Rattle.gl_context.specs.Filled.{Fills, content_sent};
+ghost use Rattle.gl_context.specs.Stands.{Keeps, IsSound};
+ghost use Rattle.gl_context.specs.Deeds.{ActsBy, commands_in};
+
+use crate::context::Context;
+use crate::deed::{Deed, Sends};
+use buffer_store::Content;
+use call_records::{BufferCall, Fill, Value};
+use command_stream::{BufferCommand, Command};
+use gl_numbers::{BUFFER_BYTES_MAX, BUFFER_SIZE, BufferTarget, GlError, Handle, Kind, Usage, is_buffer_parameter};
+use object_names::Find;
+
+/// What a bufferData fills a buffer with, where a buffer can have it.
+fn content_of(fill: Fill<'_>) -> Option<Content<'_>>
+    ensures { Fills fill.entry result }
+{
+    match fill {
+        Fill::Bytes(bytes) => Some(Content::Bytes(bytes)),
+        Fill::Size(size) if size < 0 || size > i64::from(BUFFER_BYTES_MAX) => None,
+        Fill::Size(size) => Some(Content::Size(size as u32)),
+    }
+}
+
+/// The command that writes bytes into the bound buffer, from an offset on, where there are any.
+fn part_sent(target: u32, offset: u32, bytes: &[u8]) -> Sends<'_>
+    ensures { commands_in result ≡ part_sent target offset bytes.entry }
+{
+    if bytes.is_empty() {
+        return Sends::Nothing;
+    }
+    Sends::One(Command::Buffer(BufferCommand::BufferBytes {
+        target,
+        offset,
+        bytes,
+    }))
+}
+
+/// The commands that give the bound buffer its content: the size, and then the bytes where there are any.
+fn content_sent(target: u32, usage: u32, content: Content<'_>) -> Sends<'_>
+    requires { HasShortBytes content }
+    ensures { commands_in result ≡ content_sent target usage content.entry }
+{
+    let (size, bytes) = match content {
+        Content::Size(size) => (size, None),
+        Content::Bytes(bytes) => (bytes.len() as u32, Some(bytes)),
+    };
+    let size = Command::Buffer(BufferCommand::BufferSize {
+        target,
+        usage,
+        size,
+    });
+    match bytes {
+        Some(bytes) if !bytes.is_empty() => Sends::Two(
+            size,
+            Command::Buffer(BufferCommand::BufferBytes {
+                target,
+                offset: 0,
+                bytes,
+            }),
+        ),
+        _ => Sends::One(size),
+    }
+}
+
+impl Context {
+    /// The calls on buffers.
+    pub(crate) fn buffer<'a>(&mut self, call: &BufferCall<'a>) -> Result<Deed<'a>, GlError>
+        requires { Fits (Buffer call.now) }
+        ensures acts { (w : PageState) → Keeps self.old w → IsSound w → ActsBy (buffer_row w call.now) w self.new result }
+        ensures failed { self.new.failed ≡ self.old.failed }
+    {
+        match call {
+            BufferCall::BindBuffer { target, handle } => self.bind_buffer(*target, *handle),
+            BufferCall::BufferData {
+                target,
+                usage,
+                fill,
+            } => self.buffer_data(*target, *usage, *fill),
+            BufferCall::BufferSubData {
+                target,
+                offset,
+                bytes,
+            } => self.buffer_sub_data(*target, *offset, bytes),
+            BufferCall::GetBufferParameter { target, name } => self.buffer_parameter(*target, *name),
+        }
+    }
+
+    /// bindBuffer (WebGL 1.0 section 5.14.5)
+    fn bind_buffer<'a>(&mut self, target: u32, handle: Handle) -> Result<Deed<'a>, GlError>
+        ensures acts { (w : PageState) → Keeps self.old w → IsSound w → ActsBy (bind_row w target handle) w self.new result }
+        ensures failed { self.new.failed ≡ self.old.failed }
+    {
+        let Some(to) = BufferTarget::from_u32(target) else {
+            return Err(GlError::Enum);
+        };
+        let name = match self.names.find(handle, Kind::Buffer) {
+            Find::Null => {
+                self.buffers.unbind(to);
+                0
+            }
+            Find::Live => {
+                if let Err(error) = self.buffers.bind(to, Some(handle)) {
+                    return Err(error);
+                }
+                self.buffer_name(handle)
+            }
+            _ => return Err(GlError::Operation),
+        };
+        Ok(Deed {
+            value: Value::Nothing,
+            sends: Sends::One(Command::Buffer(BufferCommand::BindBuffer { target, name })),
+        })
+    }
+
+    /// bufferData (WebGL 1.0 section 5.14.5)
+    fn buffer_data<'a>(&mut self, target: u32, usage: u32, fill: Fill<'a>) -> Result<Deed<'a>, GlError>
+        requires { Fits (Buffer (BufferData target usage fill)) }
+        ensures acts { (w : PageState) → Keeps self.old w → IsSound w → ActsBy (data_row w target usage fill.entry) w self.new result }
+        ensures failed { self.new.failed ≡ self.old.failed }
+    {
+        let (Some(to), Some(used)) = (BufferTarget::from_u32(target), Usage::from_u32(usage)) else {
+            return Err(GlError::Enum);
+        };
+        let Some(content) = content_of(fill) else {
+            return Err(GlError::Value);
+        };
+        if let Err(error) = self.buffers.data(to, content, used) {
+            return Err(error);
+        }
+        Ok(Deed {
+            value: Value::Nothing,
+            sends: content_sent(target, usage, content),
+        })
+    }
+
+    /// bufferSubData (WebGL 1.0 section 5.14.5)
+    fn buffer_sub_data<'a>(&mut self, target: u32, offset: i64, bytes: &'a [u8]) -> Result<Deed<'a>, GlError>
+        ensures acts { (w : PageState) → Keeps self.old w → IsSound w → ActsBy (sub_data_row w target offset bytes.entry) w self.new result }
+        ensures failed { self.new.failed ≡ self.old.failed }
+    {
+        let Some(to) = BufferTarget::from_u32(target) else {
+            return Err(GlError::Enum);
+        };
+        if let Err(error) = self.buffers.sub_data(to, offset, bytes) {
+            return Err(error);
+        }
+        Ok(Deed {
+            value: Value::Nothing,
+            sends: part_sent(target, offset as u32, bytes),
+        })
+    }
+
+    /// getBufferParameter (WebGL 1.0 section 5.14.5)
+    fn buffer_parameter<'a>(&mut self, target: u32, name: u32) -> Result<Deed<'a>, GlError>
+        ensures acts { (w : PageState) → Keeps self.old w → IsSound w → ActsBy (parameter_row w target name) w self.new result }
+        ensures failed { self.new.failed ≡ self.old.failed }
+    {
+        let Some(to) = BufferTarget::from_u32(target) else {
+            return Err(GlError::Enum);
+        };
+        if !is_buffer_parameter(name) {
+            return Err(GlError::Enum);
+        }
+        let Some(handle) = self.buffers.bound(to) else {
+            return Err(GlError::Operation);
+        };
+        Ok(Deed::told(Value::Number(self.parameter(handle, name))))
+    }
+
+    /// The size in bytes of a buffer that is there, or the word of its usage.
+    fn parameter(&self, handle: Handle, name: u32) -> u32
+        requires { IsSome (get self.now.buffers.buffers handle) }
+        ensures { IfSome (get self.now.buffers.buffers handle) (λ b. result ≡ (if name == buffer_size then b.size else usage_word b.usage)) }
+    {
+        if name == BUFFER_SIZE {
+            self.buffers.size(handle)
+        } else {
+            self.buffers.usage(handle)
+        }
+    }
+}

@@ -1,0 +1,31 @@
+use call_records::Value;
+use command_stream::Command;
+
+/// The commands that a call is to send.
+#[derive(Clone, Copy)]
+pub(crate) enum Sends<'a> {
+    /// None.
+    Nothing,
+    /// One command.
+    One(Command<'a>),
+    /// Two commands, in this order.
+    Two(Command<'a>, Command<'a>),
+}
+
+/// What a call did that nothing refused: what it returns, and what is to be sent.
+pub(crate) struct Deed<'a> {
+    /// What the call returns.
+    pub value: Value,
+    /// The commands that the driver is to get.
+    pub sends: Sends<'a>,
+}
+
+impl Deed<'_> {
+    /// A call that returns a value, and sends nothing.
+    pub fn told(value: Value) -> Self {
+        Deed {
+            value,
+            sends: Sends::Nothing,
+        }
+    }
+}
