@@ -1,15 +1,18 @@
 ghost use Rattle.std.specs.Prelude.{◌≡◌, false, Ok, IfOk, IfSome, IsSome, ◌==◌, if◌then◌else◌};
 ghost use Rattle.std.specs.FinMap.{get};
+ghost use Rattle.std.specs.Option.{ForSome};
+ghost use Rattle.gl_numbers.specs.BufferBindings.{non_zero};
 ghost use Rattle.gl_numbers.specs.BufferWords.{usage_word, buffer_size};
 ghost use Rattle.gl_model.specs.PageState.{PageState};
 ghost use Rattle.call_records.specs.Records.{Fits};
 ghost use Rattle.call_records.specs.declared.calls.Call.TheVariants.{Buffer};
 ghost use Rattle.call_records.specs.declared.buffer_calls.BufferCall.TheVariants.{BufferData, BufferSubData};
-ghost use Rattle.gl_context.specs.BufferRows.{buffer_row, bind_row, data_row, sub_data_row, parameter_row, part_sent};
+ghost use Rattle.gl_context.specs.BufferRows.{buffer_row, bind_row, data_row, sub_data_row, parameter_row, part_sent, bound_name};
 ghost use Rattle.buffer_store.specs.Content.{HasShortBytes};
 ghost use Rattle.gl_context.specs.Filled.{Fills, content_sent};
 ghost use Rattle.gl_context.specs.Stands.{Keeps, IsSound};
 ghost use Rattle.gl_context.specs.Deeds.{ActsBy, commands_in};
+ghost use Rattle.gl_context.specs.Found.{JudgesBindable};
 
 use crate::context::Context;
 use crate::deed::{Deed, Sends};
@@ -94,6 +97,19 @@ impl Context {
         }
     }
 
+    /// What a handle binds, none for 0, and the driver's name of it.
+    fn bindable(&self, handle: Handle) -> Result<(Option<Handle>, u32), GlError>
+        ensures there { IfOk result (λ b. ForSome b.0 (λ h. IsSome (get self.now.buffers.buffers h))) }
+        ensures bound { IfOk result (λ b. (b.0 ≡ non_zero handle) × (b.1 ≡ bound_name handle)) }
+        ensures judged { (w : PageState) → Keeps self.now w → IsSound w → JudgesBindable w handle result }
+    {
+        match self.names.find(handle, Kind::Buffer) {
+            Find::Null => Ok((None, 0)),
+            Find::Live => Ok((Some(handle), self.buffer_name(handle))),
+            _ => Err(GlError::Operation),
+        }
+    }
+
     /// bindBuffer (WebGL 1.0 section 5.14.5)
     fn bind_buffer<'a>(&mut self, target: u32, handle: Handle) -> Result<Deed<'a>, GlError>
         ensures acts { (w : PageState) → Keeps self.old w → IsSound w → ActsBy (bind_row w target handle) w self.new result }
@@ -102,19 +118,13 @@ impl Context {
         let Some(to) = BufferTarget::from_u32(target) else {
             return Err(GlError::Enum);
         };
-        let name = match self.names.find(handle, Kind::Buffer) {
-            Find::Null => {
-                self.buffers.unbind(to);
-                0
-            }
-            Find::Live => {
-                if let Err(error) = self.buffers.bind(to, Some(handle)) {
-                    return Err(error);
-                }
-                self.buffer_name(handle)
-            }
-            _ => return Err(GlError::Operation),
+        let (bound, name) = match self.bindable(handle) {
+            Ok(bindable) => bindable,
+            Err(error) => return Err(error),
         };
+        if let Err(error) = self.buffers.bind(to, bound) {
+            return Err(error);
+        }
         Ok(Deed {
             value: Value::Nothing,
             sends: Sends::One(Command::Buffer(BufferCommand::BindBuffer { target, name })),

@@ -1,3 +1,6 @@
+ghost use Rattle.std.specs.Prelude.{◌≡◌};
+ghost use Rattle.gl_context.specs.declared.deed.Sends.TheVariants.{Nothing};
+
 use call_records::Value;
 use command_stream::Command;
 
@@ -13,6 +16,7 @@ pub(crate) enum Sends<'a> {
 }
 
 /// What a call did that nothing refused: what it returns, and what is to be sent.
+#[derive(Drop)]
 pub(crate) struct Deed<'a> {
     /// What the call returns.
     pub value: Value,
@@ -22,7 +26,9 @@ pub(crate) struct Deed<'a> {
 
 impl Deed<'_> {
     /// A call that returns a value, and sends nothing.
-    pub fn told(value: Value) -> Self {
+    pub fn told(value: Value) -> Self
+        ensures { result ≡ record { value = value; sends = Nothing } }
+    {
         Deed {
             value,
             sends: Sends::Nothing,

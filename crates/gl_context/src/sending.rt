@@ -1,7 +1,7 @@
 ghost use Rattle.std.specs.Prelude.{All, [], ◌∷◌};
 ghost use Rattle.wire_io.specs.Faults.{HasCause};
 ghost use Rattle.wire_io.specs.Sinks.{Sends};
-ghost use Rattle.command_stream.specs.Commands.{Fits};
+ghost use Rattle.command_stream.specs.Plain.{Fits};
 ghost use Rattle.gl_context.specs.Deeds.{commands_in};
 ghost use Rattle.gl_context.specs.Steps.{bytes_of};
 
