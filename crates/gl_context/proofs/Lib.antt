@@ -1,2 +1,5 @@
 pub mod Agreeing
-pub mod Sending
+pub mod Sounding
+pub mod SentBytes
+pub mod Keeping
+pub mod Tying
