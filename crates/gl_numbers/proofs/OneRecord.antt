@@ -1,5 +1,5 @@
 -- Records of a table: each encoding is of one record, its length is one that its row allows, and what is read fits the row.
-use Rattle.std.proofs.Common.{◌≡◌, ℕ, ◌+◌, ◌-◌, ◌%◌, ◌<◌, ◌≤◌, ◌^◌, List, [], ◌∷◌, ◌++◌, length, take, drop, Option, Some, None, true, false, ◌&&◌, ◌==◌, nat_le, refl, sym, ap, subst, ◌∙◌, arith, append_assoc, length-append, append-nil}
+use Rattle.std.proofs.Common.{◌≡◌, ℕ, ◌+◌, ◌-◌, ◌%◌, ◌<◌, ◌≤◌, ◌^◌, Bool, List, [], ◌∷◌, ◌++◌, length, take, drop, Option, Some, None, true, false, ◌&&◌, ◌==◌, nat_le, refl, sym, ap, subst, ◌∙◌, arith, append_assoc, length-append, append-nil}
 use Rattle.std.proofs.Math.Seq.{take-append_seam, drop-append_seam}
 use Rattle.std.proofs.lemmas.Bool.Decides.{nat_tests}
 use Rattle.gl_numbers.specs.Bytes.{le32}
@@ -85,3 +85,46 @@ pub record FitsRead {O : Type 0} (row_of : O → TableRow) (most : ℕ) (bytes :
 none-left : (n m : ℕ) (left : List ℕ) → n + length left ≡ m → n ≡ m → left ≡ []
 none-left n m [] e f = refl
 none-left n m (x ∷ left) e f = absurd (omega arith)
+
+-- both tests hold
+both : (a b : Bool) → (a && b) ≡ true → (a ≡ true) × (b ≡ true)
+both true b e = (refl, e)
+both false b e = absurd cc
+
+-- a tail to the body's end
+record Ended (form : Tail) (tail new : List ℕ) : Type 0 where
+  left : new ≡ []
+  fits : FitsTail form tail
+
+ended : (form : Tail) (tail new : List ℕ) (size len : ℕ) → EndsTail form tail new → has_tail form size len ≡ true
+    → len ≡ size + (length tail + length new) → Ended form tail new
+ended Nothing tail new size len h t e =
+    let same : len ≡ size = grind (arith, nat_tests) in
+    record { left = none-left size size new (omega (arith, ap length h)) refl; fits = h }
+ended Bytes tail new size len h t e = record { left = h; fits = tt }
+ended Tails.Words tail new size len h t e =
+    let tests = both _ _ t in
+    let rest : len - size ≡ length tail = omega (arith, ap length h) in
+    let counted : ((len - size) % 4 == 0) ≡ true = tests.1 in
+    let whole : (len - size) % 4 ≡ 0 = grind (arith, nat_tests) in
+    record { left = h; fits = rw (← rest) whole }
+
+pub read-fits : {O : Type 0} (row_of : O → TableRow) (most : ℕ) (wanted : O) (old new : List ℕ) (parts : Parts O)
+    → ReadsRow row_of wanted old new parts → allows most (row_of wanted) (length old) ≡ true → FitsRead row_of most old parts
+read-fits {O} row_of most wanted old new parts h allowed =
+    let tests = both (nat_le (length old) most) (has_tail (row_of wanted).tail (fields_size (row_of wanted).letters) (length old)) allowed in
+    let small : nat_le (length old) most ≡ true = tests.0 in
+    let within : length old ≤ most = grind (arith, nat_tests) in
+    let size : length old ≡ fields_size (row_of wanted).letters + (length parts.tail + length new) =
+    omega (arith, ap length h.bytes, length-body parts.values (parts.tail ++ new), length-append parts.tail new, values_size-fits (row_of wanted).letters parts.values h.values) in
+    let end = ended (row_of wanted).tail parts.tail new (fields_size (row_of wanted).letters) (length old) h.tail tests.1 size in
+    let same : body parts ≡ old = sym (h.bytes ∙ ap (λ (rest : List ℕ). body_encoding parts.values (parts.tail ++ rest)) end.left ∙ ap (body_encoding parts.values) (append-nil parts.tail)) in
+    let operation = h.operation in
+    record {
+      fits = record {
+        values = subst (λ (o : O). FitsLetters (row_of o).letters parts.values) (sym operation) h.values;
+        tail = subst (λ (o : O). FitsTail (row_of o).tail parts.tail) (sym operation) end.fits;
+        body = rw same within;
+      };
+      body = same;
+    }

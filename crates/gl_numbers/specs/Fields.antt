@@ -19,6 +19,10 @@ pub record TableRow : Type 0 where
   pub letters : List Letter
   pub tail : Tail
 
+-- a row of this number, name, letters and tail
+abbrev pub row : ℕ → List ℕ → List Letter → Tail → TableRow
+row number name letters tail = record { number = number; name = name; letters = letters; tail = tail }
+
 -- the value of a field: a word, a number of 32 or 64 bits with a sign, or several words
 pub data Value : Type 0 where
   Word : ℕ → Value
@@ -31,6 +35,14 @@ pub record Parts (O : Type 0) : Type 0 where
   pub operation : O
   pub values : List Value
   pub tail : List ℕ
+
+-- a record of this operation, values and tail
+abbrev pub says : {O : Type 0} → O → List Value → List ℕ → Parts O
+says operation values tail = record { operation = operation; values = values; tail = tail }
+
+-- what a record of one subject says, among all subjects
+abbrev pub among : {O P : Type 0} → (O → P) → Parts O → Parts P
+among subject parts = record { operation = subject parts.operation; values = parts.values; tail = parts.tail }
 
 -- the bytes of a field
 abbrev pub letter_size : Letter → ℕ
