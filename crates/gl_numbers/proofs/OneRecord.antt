@@ -109,9 +109,9 @@ ended Tails.Words tail new size len h t e =
     let whole : (len - size) % 4 ≡ 0 = grind (arith, nat_tests) in
     record { left = h; fits = rw (← rest) whole }
 
-pub read-fits : {O : Type 0} (row_of : O → TableRow) (most : ℕ) (wanted : O) (old new : List ℕ) (parts : Parts O)
+pub read_fits : {O : Type 0} (row_of : O → TableRow) (most : ℕ) (wanted : O) (old new : List ℕ) (parts : Parts O)
     → ReadsRow row_of wanted old new parts → allows most (row_of wanted) (length old) ≡ true → FitsRead row_of most old parts
-read-fits {O} row_of most wanted old new parts h allowed =
+read_fits {O} row_of most wanted old new parts h allowed =
     let tests = both (nat_le (length old) most) (has_tail (row_of wanted).tail (fields_size (row_of wanted).letters) (length old)) allowed in
     let small : nat_le (length old) most ≡ true = tests.0 in
     let within : length old ≤ most = grind (arith, nat_tests) in

@@ -1,4 +1,4 @@
-ghost use Rattle.std.specs.Prelude.{◌≡◌, ◌≤◌, ◌++◌, length, drop, [], FitsSigned};
+ghost use Rattle.std.specs.Prelude.{◌≡◌, ◌+◌, ◌≤◌, ◌++◌, length, [], FitsSigned};
 ghost use Rattle.std.specs.Int.{w32};
 ghost use Rattle.gl_numbers.specs.Bytes.{le32, le64, IsLong};
 ghost use Rattle.gl_numbers.specs.Fields.{le32_signed};
@@ -31,7 +31,8 @@ impl<'a> Fields<'a> {
     /// Reads a word: a field of the letter u, h, b or f.
     pub fn word(&mut self) -> u32
         requires { 4 ≤ length self.old }
-        ensures { self.old ≡ le32 result ++ self.new }
+        ensures bytes { self.old ≡ le32 result ++ self.new }
+        ensures left { length self.old ≡ 4 + length self.new }
     {
         let word = u32_at(self.bytes);
         self.bytes = &self.bytes[4..];
@@ -43,6 +44,7 @@ impl<'a> Fields<'a> {
         requires { 4 ≤ length self.old }
         ensures bytes { self.old ≡ le32_signed result ++ self.new }
         ensures range { FitsSigned w32 result }
+        ensures left { length self.old ≡ 4 + length self.new }
     {
         let number = i32_at(self.bytes);
         self.bytes = &self.bytes[4..];
@@ -54,6 +56,7 @@ impl<'a> Fields<'a> {
         requires { 8 ≤ length self.old }
         ensures bytes { self.old ≡ le64 result ++ self.new }
         ensures range { IsLong result }
+        ensures left { length self.old ≡ 8 + length self.new }
     {
         let number = i64_at(self.bytes);
         self.bytes = &self.bytes[8..];
