@@ -1,5 +1,6 @@
 -- Bodies of fields: how long they are, and that each is of one list of values.
-use Rattle.std.proofs.Common.{◌≡◌, ℕ, ℤ, ◌+◌, ◌-◌, ◌*◌, ◌%◌, ◌<◌, ◌≤◌, ◌^◌, List, [], ◌∷◌, ◌++◌, length, take, drop, All, true, FitsSigned, refl, sym, ap, ◌∙◌, arith, append_assoc, length-append}
+use Rattle.std.proofs.Common.{◌≡◌, ℕ, ℤ, ◌+◌, ◌-◌, ◌*◌, ◌%◌, ◌<◌, ◌≤◌, ◌^◌, List, [], ◌∷◌, ◌++◌, length, get_or, take, drop, All, suc, add-one, true, FitsSigned, refl, sym, ap, ◌∙◌, arith, append_assoc, length-append}
+use Rattle.std.proofs.Math.Seq.{drop-cons}
 use Rattle.std.proofs.lemmas.Nat.{from_le_bytes-to_le_bytes_4, from_le_bytes-to_le_bytes_8}
 use Rattle.std.proofs.lemmas.Int.{to_z-of_z}
 use Rattle.std.proofs.Math.Facts.{Fits-of_z}
@@ -10,7 +11,8 @@ use Rattle.gl_numbers.specs.Bytes.{le32, le64, IsLong}
 use Rattle.gl_numbers.specs.declared.fields.Letter.{Letter}
 use Rattle.gl_numbers.specs.declared.fields.Letter.TheVariants.{U, H, B, F, I, L}
 use Rattle.gl_numbers.specs.declared.fields.Letter.TheVariants as Letters
-use Rattle.gl_numbers.specs.Fields.{Value, Word, Int, Long, Words, letter_size, fields_size, le32_signed, value_encoding, body_encoding, FitsLetter, FitsLetters}
+use Rattle.gl_numbers.specs.declared.fields.Field.{Field}
+use Rattle.gl_numbers.specs.Fields.{Value, value_of, values_of, Word, Int, Long, Words, letter_size, fields_size, le32_signed, value_size, values_size, value_encoding, body_encoding, FitsLetter, FitsLetters}
 use Rattle.gl_numbers.proofs.Bytes.{length-le32, length-le64, le32-one}
 
 pub length-le32_signed : (z : ℤ) → length (le32_signed z) ≡ 4
@@ -22,24 +24,42 @@ length-words : (ns : List ℕ) → length (flat_map le32 ns) ≡ 4 * length ns
 length-words [] = refl
 length-words (n ∷ ns) = omega (arith, length-append (le32 n) (flat_map le32 ns), length-le32 n, length-words ns)
 
--- a value that fits has its letter's bytes
-length-value : (letter : Letter) (value : Value) → FitsLetter letter value → length (value_encoding value) ≡ letter_size letter
-length-value U (Word n) h = length-le32 n
-length-value H (Word n) h = length-le32 n
-length-value B (Word n) h = length-le32 n
-length-value F (Word n) h = length-le32 n
-length-value I (Int z) h = length-le32_signed z
-length-value L (Long z) h = length-le64 z
-length-value (Letters.Words n) (Words ns) h = length-words ns ∙ ap (λ k. 4 * k) h.0
-length-value _ _ h = absurd h
+pub length-value : (value : Value) → length (value_encoding value) ≡ value_size value
+length-value (Word n) = length-le32 n
+length-value (Int z) = length-le32_signed z
+length-value (Long z) = length-le64 z
+length-value (Words ns) = length-words ns
 
 -- a body has its fields' bytes, and its tail's
-pub length-body : (letters : List Letter) (values : List Value) (tail : List ℕ) → FitsLetters letters values
-    → length (body_encoding values tail) ≡ fields_size letters + length tail
-length-body [] [] tail h = omega arith
-length-body (letter ∷ letters) (value ∷ values) tail h =
-    omega (arith, length-append (value_encoding value) (body_encoding values tail), length-value letter value h.0, length-body letters values tail h.1)
-length-body _ _ tail h = absurd h
+pub length-body : (values : List Value) (tail : List ℕ) → length (body_encoding values tail) ≡ values_size values + length tail
+length-body [] tail = omega arith
+length-body (value ∷ values) tail =
+    omega (arith, length-append (value_encoding value) (body_encoding values tail), length-value value, length-body values tail)
+
+pub ruleset lengths = (length-value, length-body)
+
+-- a value that fits has its letter's bytes
+value_size-fits : (letter : Letter) (value : Value) → FitsLetter letter value → value_size value ≡ letter_size letter
+value_size-fits U (Word n) h = refl
+value_size-fits H (Word n) h = refl
+value_size-fits B (Word n) h = refl
+value_size-fits F (Word n) h = refl
+value_size-fits I (Int z) h = refl
+value_size-fits L (Long z) h = refl
+value_size-fits (Letters.Words n) (Words ns) h = ap (λ k. 4 * k) h.0
+value_size-fits _ _ h = absurd h
+
+-- values that fit have their letters' bytes
+pub values_size-fits : (letters : List Letter) (values : List Value) → FitsLetters letters values → values_size values ≡ fields_size letters
+values_size-fits [] [] h = refl
+values_size-fits (letter ∷ letters) (value ∷ values) h = omega (arith, value_size-fits letter value h.0, values_size-fits letters values h.1)
+values_size-fits _ _ h = absurd h
+
+-- a body's bytes before a tail
+pub body-tail : (values : List Value) (tail : List ℕ) → body_encoding values tail ≡ body_encoding values [] ++ tail
+body-tail [] tail = refl
+body-tail (value ∷ values) tail =
+    ap (λ rest. value_encoding value ++ rest) (body-tail values tail) ∙ sym (append_assoc (value_encoding value) (body_encoding values []) tail)
 
 -- the value that begins a list, and what follows it
 record OneValue (a b : Value) (x y : List ℕ) : Type 0 where
@@ -130,3 +150,24 @@ body-one (letter ∷ letters) (v ∷ a) (w ∷ b) x y p q e =
 body-one [] [] (w ∷ b) x y p q e = absurd q
 body-one (letter ∷ letters) (v ∷ a) [] x y p q e = absurd q
 body-one _ _ _ x y p q e = absurd p
+
+-- the bytes of the fields before a place
+pub record FieldsSoFar (fields : List Field) (all : List ℕ) (i : ℕ) : Type 0 where
+  pub size : length all + values_size (values_of (drop i fields)) ≡ values_size (values_of fields)
+  pub bytes : body_encoding (values_of fields) [] ≡ all ++ body_encoding (values_of (drop i fields)) []
+
+-- one more field
+pub fields_more : (fields : List Field) (all new : List ℕ) (i : ℕ) (d : Field) → i < length fields → FieldsSoFar fields all i
+    → new ≡ all ++ value_encoding (value_of (get_or fields i d)) → FieldsSoFar fields new (i + 1)
+fields_more fields all new i d within h e =
+    let cut : drop i fields ≡ get_or fields i d ∷ drop (i + 1) fields = rw add-one (drop-cons fields i d within) in
+    let sizes : values_size (values_of (drop i fields)) ≡ value_size (value_of (get_or fields i d)) + values_size (values_of (drop (i + 1) fields)) =
+    ap (λ (rest : List Field). values_size (values_of rest)) cut in
+    let bytes : body_encoding (values_of (drop i fields)) [] ≡ value_encoding (value_of (get_or fields i d)) ++ body_encoding (values_of (drop (i + 1) fields)) [] =
+    ap (λ (rest : List Field). body_encoding (values_of rest) []) cut in
+    let joined : (all ++ value_encoding (value_of (get_or fields i d))) ++ body_encoding (values_of (drop (i + 1) fields)) []
+    ≡ all ++ (value_encoding (value_of (get_or fields i d)) ++ body_encoding (values_of (drop (i + 1) fields)) []) = append_assoc all _ _ in
+    record {
+      size = omega (arith, h.size, sizes, ap length e, length-append all (value_encoding (value_of (get_or fields i d))), length-value (value_of (get_or fields i d)));
+      bytes = cc (h.bytes, bytes, joined, e);
+    }

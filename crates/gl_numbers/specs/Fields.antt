@@ -68,6 +68,18 @@ value_encoding (Int z) = le32_signed z
 value_encoding (Long z) = le64 z
 value_encoding (Words ns) = flat_map le32 ns
 
+-- how many bytes a field's value has
+abbrev pub value_size : Value → ℕ
+value_size (Word n) = 4
+value_size (Int z) = 4
+value_size (Long z) = 8
+value_size (Words ns) = 4 * length ns
+
+-- how many bytes the fields have in all
+abbrev pub values_size : List Value → ℕ
+values_size [] = 0
+values_size (value ∷ values) = value_size value + values_size values
+
 -- the bytes of the fields in order, and then the tail
 abbrev pub body_encoding : List Value → List ℕ → List ℕ
 body_encoding [] tail = tail
@@ -109,6 +121,18 @@ pub record FitsRow {O : Type 0} (row_of : O → TableRow) (most : ℕ) (parts : 
   pub values : FitsLetters (row_of parts.operation).letters parts.values
   pub tail : FitsTail (row_of parts.operation).tail parts.tail
   pub body : length (body parts) ≤ most
+
+-- how a row's tail is read where nothing is left after `new`: a tail goes to the body's end
+abbrev pub EndsTail : Tail → List ℕ → List ℕ → Type 0
+EndsTail Nothing tail new = tail ≡ []
+EndsTail _ tail new = new ≡ []
+
+-- a body is read as one of the row's, up to `new`: the values fit the letters, and they and the tail are what was read
+pub record ReadsRow {O : Type 0} (row_of : O → TableRow) (wanted : O) (old new : List ℕ) (parts : Parts O) : Type 0 where
+  pub operation : parts.operation ≡ wanted
+  pub values : FitsLetters (row_of wanted).letters parts.values
+  pub tail : EndsTail (row_of wanted).tail parts.tail new
+  pub bytes : old ≡ body_encoding parts.values (parts.tail ++ new)
 
 -- the operation of a number, if one of these has it
 abbrev pub numbered : {O : Type 0} → (O → TableRow) → List O → ℕ → Option O

@@ -135,6 +135,13 @@ impl Row {
         self.tail
     }
 
+    /// The bytes of the fields in all.
+    pub fn size(&self) -> usize
+        ensures { result ≡ fields_size self.now.letters }
+    {
+        self.size
+    }
+
     /// Whether a body of `len` bytes is one of this row's, where a body has at most `most` bytes.
     pub fn allows(&self, most: usize, len: usize) -> bool
         ensures { result ≡ allows most self.now len }
