@@ -37,13 +37,13 @@ bound_view s target = view_at s (binding s.bound target)
 
 -- bindBuffer: the buffer was first bound to the other target
 abbrev pub bind_rules : Stored → BufferTarget → Option ℕ → List Rule
-bind_rules s target handle = other_target target (view_at s handle) ∷ []
+bind_rules s target handle = other_target (Some target) (view_at s handle) ∷ []
 
 -- bindBuffer: the target has this binding, and the buffer is of this target
 abbrev pub bound_to_target : Stored → BufferTarget → Option ℕ → Stored
 bound_to_target s target handle = record {
   buffers = changed s.buffers handle (with_first target);
-  bound = bind target handle s.bound;
+  bound = bind (Some target) handle s.bound;
 }
 
 -- bufferData: the size is too large; no buffer is bound

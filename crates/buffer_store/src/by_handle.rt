@@ -100,7 +100,7 @@ impl ByHandle {
         h: Handle,
     ) -> Result<(), GlError>
         requires { IsSome (get self.old h) }
-        ensures judged { Judged (other_target target (option_map view_of (get self.old h)) ∷ []) result }
+        ensures judged { Judged (other_target (Some target) (option_map view_of (get self.old h)) ∷ []) result }
         ensures ok { OnOk result (self.new ≡ changed_at self.old h (with_first target) (get self.old h)) }
         ensures err { OnErr result (self.new ≡ self.old) }
         ensures firsts { KeepsFirst self.old self.new }
