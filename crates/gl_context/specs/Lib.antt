@@ -9,6 +9,7 @@ pub mod Stands
 pub mod Tied
 pub mod Follows
 pub mod Filled
+pub mod Found
 pub mod Deeds
 pub mod Steps
 pub mod Opening

@@ -10,7 +10,7 @@ use Rattle.gl_numbers.specs.declared.buffer_words.BufferTarget.{BufferTarget}
 use Rattle.gl_numbers.specs.declared.buffer_words.BufferTarget.TheVariants.{Array, ElementArray}
 use Rattle.gl_numbers.specs.declared.kinds.Kind.TheVariants as kind
 use Rattle.object_names.specs.Objects as Names
-use Rattle.buffer_store.specs.Buffer.{StoredBuffer}
+use Rattle.buffer_store.specs.StoredBuffer.{StoredBuffer}
 use Rattle.buffer_store.specs.Stored.{Stored}
 use Rattle.gl_model.specs.Errors.{ErrorSet}
 use Rattle.gl_model.specs.Buffers.{Buffer}

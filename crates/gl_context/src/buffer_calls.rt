@@ -1,18 +1,20 @@
-ghost use Rattle.std.specs.Prelude.{◌≡◌, false, Ok, IfOk, IfSome, IsSome, ◌==◌, if◌then◌else◌};
+ghost use Rattle.std.specs.Prelude.{◌≡◌, ◌+◌, ◌≤◌, length, false, Ok, IfOk, IfSome, IsSome, ◌==◌, if◌then◌else◌};
 ghost use Rattle.std.specs.FinMap.{get};
+ghost use Rattle.std.specs.Option.{ForSome};
+ghost use Rattle.gl_numbers.specs.BufferBindings.{non_zero};
 ghost use Rattle.gl_numbers.specs.BufferWords.{usage_word, buffer_size};
 ghost use Rattle.gl_model.specs.PageState.{PageState};
 ghost use Rattle.call_records.specs.Records.{Fits};
 ghost use Rattle.call_records.specs.declared.calls.Call.TheVariants.{Buffer};
 ghost use Rattle.call_records.specs.declared.buffer_calls.BufferCall.TheVariants.{BufferData, BufferSubData};
-ghost use Rattle.gl_context.specs.BufferRows.{buffer_row, bind_row, data_row, sub_data_row, parameter_row, part_sent};
-ghost use Rattle.buffer_store.specs.Content.{HasShortBytes};
-ghost use Rattle.gl_context.specs.Filled.{Fills, content_sent};
+ghost use Rattle.gl_context.specs.BufferRows.{buffer_row, bind_row, data_row, sub_data_row, parameter_row, part_sent, bound_name};
+ghost use Rattle.gl_context.specs.Filled.{Fills, HasRoom, content_sent};
 ghost use Rattle.gl_context.specs.Stands.{Keeps, IsSound};
-ghost use Rattle.gl_context.specs.Deeds.{ActsBy, commands_in};
+ghost use Rattle.gl_context.specs.Deeds.{ActsBy, CanSend, commands_in};
+ghost use Rattle.gl_context.specs.Found.{JudgesBindable};
 
 use crate::context::Context;
-use crate::deed::{Deed, Sends};
+use crate::deed::{Deed, Outgoing};
 use buffer_store::Content;
 use call_records::{BufferCall, Fill, Value};
 use command_stream::{BufferCommand, Command};
@@ -31,13 +33,16 @@ fn content_of(fill: Fill<'_>) -> Option<Content<'_>>
 }
 
 /// The command that writes bytes into the bound buffer, from an offset on, where there are any.
-fn part_sent(target: u32, offset: u32, bytes: &[u8]) -> Sends<'_>
-    ensures { commands_in result ≡ part_sent target offset bytes.entry }
+#[tactic(auto, using(crate::proofs::SentBytes::allowed_bytes))]
+fn part_sent(target: u32, offset: u32, bytes: &[u8]) -> Outgoing<'_>
+    requires { 8 + length bytes.now ≤ 16777280 }
+    ensures commands { commands_in result ≡ part_sent target offset bytes.entry }
+    ensures sendable { CanSend result }
 {
     if bytes.is_empty() {
-        return Sends::Nothing;
+        return Outgoing::Nothing;
     }
-    Sends::One(Command::Buffer(BufferCommand::BufferBytes {
+    Outgoing::One(Command::Buffer(BufferCommand::BufferBytes {
         target,
         offset,
         bytes,
@@ -45,9 +50,11 @@ fn part_sent(target: u32, offset: u32, bytes: &[u8]) -> Sends<'_>
 }
 
 /// The commands that give the bound buffer its content: the size, and then the bytes where there are any.
-fn content_sent(target: u32, usage: u32, content: Content<'_>) -> Sends<'_>
-    requires { HasShortBytes content }
-    ensures { commands_in result ≡ content_sent target usage content.entry }
+#[tactic(auto, using(crate::proofs::SentBytes::allowed_size, crate::proofs::SentBytes::allowed_bytes))]
+fn content_sent(target: u32, usage: u32, content: Content<'_>) -> Outgoing<'_>
+    requires { HasRoom content }
+    ensures commands { commands_in result ≡ content_sent target usage content.entry }
+    ensures sendable { CanSend result }
 {
     let (size, bytes) = match content {
         Content::Size(size) => (size, None),
@@ -59,7 +66,7 @@ fn content_sent(target: u32, usage: u32, content: Content<'_>) -> Sends<'_>
         size,
     });
     match bytes {
-        Some(bytes) if !bytes.is_empty() => Sends::Two(
+        Some(bytes) if !bytes.is_empty() => Outgoing::Two(
             size,
             Command::Buffer(BufferCommand::BufferBytes {
                 target,
@@ -67,7 +74,7 @@ fn content_sent(target: u32, usage: u32, content: Content<'_>) -> Sends<'_>
                 bytes,
             }),
         ),
-        _ => Sends::One(size),
+        _ => Outgoing::One(size),
     }
 }
 
@@ -76,6 +83,7 @@ impl Context {
     pub(crate) fn buffer<'a>(&mut self, call: &BufferCall<'a>) -> Result<Deed<'a>, GlError>
         requires { Fits (Buffer call.now) }
         ensures acts { (w : PageState) → Keeps self.old w → IsSound w → ActsBy (buffer_row w call.now) w self.new result }
+        ensures sendable { IfOk result (λ deed. CanSend deed.outgoing) }
         ensures failed { self.new.failed ≡ self.old.failed }
     {
         match call {
@@ -94,37 +102,48 @@ impl Context {
         }
     }
 
+    /// What a handle binds, none for 0, and the driver's name of it.
+    fn bindable(&self, handle: Handle) -> Result<(Option<Handle>, u32), GlError>
+        ensures there { IfOk result (λ b. ForSome b.0 (λ h. IsSome (get self.now.buffers.buffers h))) }
+        ensures bound { IfOk result (λ b. (b.0 ≡ non_zero handle) × (b.1 ≡ bound_name handle)) }
+        ensures judged { (w : PageState) → Keeps self.now w → IsSound w → JudgesBindable w handle result }
+    {
+        match self.names.find(handle, Kind::Buffer) {
+            Find::Null => Ok((None, 0)),
+            Find::Live => Ok((Some(handle), self.buffer_name(handle))),
+            _ => Err(GlError::Operation),
+        }
+    }
+
     /// bindBuffer (WebGL 1.0 section 5.14.5)
+    #[tactic(auto, using(crate::proofs::SentBytes::allowed_bind))]
     fn bind_buffer<'a>(&mut self, target: u32, handle: Handle) -> Result<Deed<'a>, GlError>
         ensures acts { (w : PageState) → Keeps self.old w → IsSound w → ActsBy (bind_row w target handle) w self.new result }
+        ensures sendable { IfOk result (λ deed. CanSend deed.outgoing) }
         ensures failed { self.new.failed ≡ self.old.failed }
     {
         let Some(to) = BufferTarget::from_u32(target) else {
             return Err(GlError::Enum);
         };
-        let name = match self.names.find(handle, Kind::Buffer) {
-            Find::Null => {
-                self.buffers.unbind(to);
-                0
-            }
-            Find::Live => {
-                if let Err(error) = self.buffers.bind(to, Some(handle)) {
-                    return Err(error);
-                }
-                self.buffer_name(handle)
-            }
-            _ => return Err(GlError::Operation),
+        let (bound, name) = match self.bindable(handle) {
+            Ok(bindable) => bindable,
+            Err(error) => return Err(error),
         };
+        if let Err(error) = self.buffers.bind(to, bound) {
+            return Err(error);
+        }
         Ok(Deed {
             value: Value::Nothing,
-            sends: Sends::One(Command::Buffer(BufferCommand::BindBuffer { target, name })),
+            outgoing: Outgoing::One(Command::Buffer(BufferCommand::BindBuffer { target, name })),
         })
     }
 
     /// bufferData (WebGL 1.0 section 5.14.5)
+    #[tactic(auto, using(crate::proofs::SentBytes::bytes_fit))]
     fn buffer_data<'a>(&mut self, target: u32, usage: u32, fill: Fill<'a>) -> Result<Deed<'a>, GlError>
         requires { Fits (Buffer (BufferData target usage fill)) }
         ensures acts { (w : PageState) → Keeps self.old w → IsSound w → ActsBy (data_row w target usage fill.entry) w self.new result }
+        ensures sendable { IfOk result (λ deed. CanSend deed.outgoing) }
         ensures failed { self.new.failed ≡ self.old.failed }
     {
         let (Some(to), Some(used)) = (BufferTarget::from_u32(target), Usage::from_u32(usage)) else {
@@ -138,13 +157,16 @@ impl Context {
         }
         Ok(Deed {
             value: Value::Nothing,
-            sends: content_sent(target, usage, content),
+            outgoing: content_sent(target, usage, content),
         })
     }
 
     /// bufferSubData (WebGL 1.0 section 5.14.5)
+    #[tactic(auto, using(crate::proofs::SentBytes::part_fit))]
     fn buffer_sub_data<'a>(&mut self, target: u32, offset: i64, bytes: &'a [u8]) -> Result<Deed<'a>, GlError>
+        requires { Fits (Buffer (BufferSubData target offset bytes)) }
         ensures acts { (w : PageState) → Keeps self.old w → IsSound w → ActsBy (sub_data_row w target offset bytes.entry) w self.new result }
+        ensures sendable { IfOk result (λ deed. CanSend deed.outgoing) }
         ensures failed { self.new.failed ≡ self.old.failed }
     {
         let Some(to) = BufferTarget::from_u32(target) else {
@@ -155,13 +177,14 @@ impl Context {
         }
         Ok(Deed {
             value: Value::Nothing,
-            sends: part_sent(target, offset as u32, bytes),
+            outgoing: part_sent(target, offset as u32, bytes),
         })
     }
 
     /// getBufferParameter (WebGL 1.0 section 5.14.5)
     fn buffer_parameter<'a>(&mut self, target: u32, name: u32) -> Result<Deed<'a>, GlError>
         ensures acts { (w : PageState) → Keeps self.old w → IsSound w → ActsBy (parameter_row w target name) w self.new result }
+        ensures sendable { IfOk result (λ deed. CanSend deed.outgoing) }
         ensures failed { self.new.failed ≡ self.old.failed }
     {
         let Some(to) = BufferTarget::from_u32(target) else {

@@ -11,7 +11,7 @@ ghost use Rattle.call_records.specs.declared.replies.Value.TheVariants.{Nothing}
 ghost use Rattle.command_stream.specs.Commands.{stream_start};
 ghost use Rattle.gl_context.specs.PageStep.{row_of};
 ghost use Rattle.gl_context.specs.Stands.{Keeps, IsSound, Stands};
-ghost use Rattle.gl_context.specs.Deeds.{ActsBy};
+ghost use Rattle.gl_context.specs.Deeds.{ActsBy, CanSend};
 ghost use Rattle.gl_context.specs.Steps.{StepsOrStops};
 ghost use Rattle.gl_context.specs.Opening.{Opens};
 
@@ -106,6 +106,7 @@ impl Context {
     fn act<'a>(&mut self, call: &Call<'a>) -> Result<Deed<'a>, GlError>
         requires { Fits call.now }
         ensures acts { (w : PageState) → Keeps self.old w → IsSound w → ActsBy (row_of w call.now) w self.new result }
+        ensures sendable { IfOk result (λ deed. CanSend deed.outgoing) }
         ensures failed { self.new.failed ≡ self.old.failed }
     {
         match call {
@@ -135,7 +136,7 @@ impl Context {
             Ok(deed) => deed,
             Err(error) => return Ok(self.raise(error)),
         };
-        let Ok(()) = send(&deed.sends, stream) else {
+        let Ok(()) = send(&deed.outgoing, stream) else {
             self.failed = true;
             return Err(WriteFault);
         };

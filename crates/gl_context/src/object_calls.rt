@@ -1,4 +1,4 @@
-ghost use Rattle.std.specs.Prelude.{◌≡◌, Ok, true, IsSomeAnd};
+ghost use Rattle.std.specs.Prelude.{◌≡◌, Ok, true, IfOk, IsSomeAnd};
 ghost use Rattle.gl_numbers.specs.ByHandle.{object_at};
 ghost use Rattle.gl_numbers.specs.declared.kinds.Kind.TheVariants as kind;
 ghost use Rattle.object_names.specs.Objects.{IsOne, Finds};
@@ -7,10 +7,10 @@ ghost use Rattle.gl_model.specs.PageState.{PageState, is_live};
 ghost use Rattle.call_records.specs.declared.object_calls.ObjectKind.TheVariants as object;
 ghost use Rattle.gl_context.specs.ObjectRows.{object_row, create_row, delete_row, is_kind_row};
 ghost use Rattle.gl_context.specs.Stands.{Keeps, IsSound, buffer_name};
-ghost use Rattle.gl_context.specs.Deeds.{ActsBy};
+ghost use Rattle.gl_context.specs.Deeds.{ActsBy, CanSend};
 
 use crate::context::Context;
-use crate::deed::{Deed, Sends};
+use crate::deed::{Deed, Outgoing};
 use call_records::{New, ObjectCall, ObjectKind, Value};
 use command_stream::{Command, ObjectCommand};
 use gl_numbers::{GlError, Handle, Kind};
@@ -20,6 +20,7 @@ impl Context {
     /// The calls that make, delete and tell objects.
     pub(crate) fn object<'a>(&mut self, call: &ObjectCall) -> Result<Deed<'a>, GlError>
         ensures acts { (w : PageState) → Keeps self.old w → IsSound w → ActsBy (object_row w call.now) w self.new result }
+        ensures sendable { IfOk result (λ deed. CanSend deed.outgoing) }
         ensures failed { self.new.failed ≡ self.old.failed }
     {
         match call {
@@ -36,8 +37,10 @@ impl Context {
     }
 
     /// createBuffer (WebGL 1.0 section 5.14.5)
+    #[tactic(auto, using(crate::proofs::SentBytes::allowed_make))]
     fn create_buffer<'a>(&mut self) -> Result<Deed<'a>, GlError>
         ensures acts { (w : PageState) → Keeps self.old w → IsSound w → ActsBy (create_row w) w self.new result }
+        ensures sendable { IfOk result (λ deed. CanSend deed.outgoing) }
         ensures failed { self.new.failed ≡ self.old.failed }
     {
         let (handle, name) = match self.names.room(Kind::Buffer) {
@@ -51,7 +54,7 @@ impl Context {
         self.names.create(Kind::Buffer);
         Ok(Deed {
             value: Value::Number(handle),
-            sends: Sends::One(Command::Object(ObjectCommand::MakeBuffer(name))),
+            outgoing: Outgoing::One(Command::Object(ObjectCommand::MakeBuffer(name))),
         })
     }
 
@@ -74,8 +77,10 @@ impl Context {
     }
 
     /// deleteBuffer (WebGL 1.0 section 5.14.5)
+    #[tactic(auto, using(crate::proofs::SentBytes::allowed_drop))]
     fn delete_buffer<'a>(&mut self, handle: Handle) -> Result<Deed<'a>, GlError>
         ensures acts { (w : PageState) → Keeps self.old w → IsSound w → ActsBy (delete_row w object.Buffer handle) w self.new result }
+        ensures sendable { IfOk result (λ deed. CanSend deed.outgoing) }
         ensures failed { self.new.failed ≡ self.old.failed }
     {
         match self.names.find(handle, Kind::Buffer) {
@@ -85,7 +90,7 @@ impl Context {
                 self.mark_buffer(handle);
                 Ok(Deed {
                     value: Value::Nothing,
-                    sends: Sends::One(Command::Object(ObjectCommand::DropBuffer(name))),
+                    outgoing: Outgoing::One(Command::Object(ObjectCommand::DropBuffer(name))),
                 })
             }
             _ => Ok(Deed::told(Value::Nothing)),
