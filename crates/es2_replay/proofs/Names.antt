@@ -36,6 +36,7 @@ state-changed_bound change target name old new bound is =
 -- the driver's state, where a name was bound to a target and then its buffer took the target
 pub state-bound : (target name : ℕ) (wanted : BufferTarget) (old between new : Kept) → buffer_target_of target ≡ Some wanted
     → between.made ≡ old.made → between.bound ≡ bind (Some wanted) (non_zero name) old.bound
-    → IsChanged (take_target (Some wanted)) name between new → state_of new ≡ record { buffers = bind_buffer target name (state_of old).buffers }
+    → IsChanged (take_target (Some wanted)) name between new
+    → state_of new ≡ record { buffers = bind_buffer target name (state_of old).buffers }
 state-bound target name wanted old between new is made bound changed =
     rw (is, ← bound, ← made) (ap only_buffers (buffers-changed (take_target (Some wanted)) name between new changed))

@@ -11,5 +11,8 @@ returns-clause-state c =
     let wanted : buffer_target_of c.args.target ≡ Some c.in-Some.wanted = cc in
     let between : Kept = record { made = c.self.inside.buffers.entries; bound = c.set.new.self; count = c.self.inside.count } in
     let bound : between.bound ≡ bind (Some c.in-Some.wanted) (non_zero c.args.name) c.args.self.now.bound =
-    rw c.non_zero.ensures at (c.set.ensures ∙ ap (λ (k : Kept). bind (Some c.in-Some.wanted) c.non_zero.result k.bound) c.self.view_is) in
-    state-bound c.args.target c.args.name c.in-Some.wanted c.args.self.now between c.take_target.new.self wanted (ap (λ (k : Kept). k.made) c.self.view_is) bound c.take_target.ensures
+    rw c.non_zero.ensures at
+    (c.set.ensures ∙ ap (λ (k : Kept). bind (Some c.in-Some.wanted) c.non_zero.result k.bound) c.self.view_is) in
+    let made : between.made ≡ c.args.self.now.made = ap (λ (k : Kept). k.made) c.self.view_is in
+    state-bound c.args.target c.args.name c.in-Some.wanted c.args.self.now between c.take_target.new.self wanted made bound
+    c.take_target.ensures

@@ -8,4 +8,5 @@ use Rattle.es2_replay.proofs.machine.Machine.buffer_bytes.Goals as goal
 pub returns-clause-state : goal.returns-clause-state
 returns-clause-state c =
     let bound : bound_to c.args.self.now.bound c.args.target ≡ Some c.in-Some.name = cc in
-    state-changed_bound (patch c.args.offset c.args.bytes.now) c.args.target c.in-Some.name c.args.self.now c.patch.new.self bound c.patch.ensures
+    state-changed_bound (patch c.args.offset c.args.bytes.now) c.args.target c.in-Some.name c.args.self.now
+    c.patch.new.self bound c.patch.ensures

@@ -11,4 +11,5 @@ returns-clause-state c =
     let bound : bound_to c.args.self.now.bound c.args.target ≡ Some c.in-Some.name = cc in
     let zeros : c.in-Ok.zeros.items ≡ replicate c.args.size 0 = search rules in
     rw zeros at
-    (state-changed_bound (take_data c.args.usage c.in-Ok.zeros.items) c.args.target c.in-Some.name c.args.self.now c.take_data.new.self bound c.take_data.ensures)
+    (state-changed_bound (take_data c.args.usage c.in-Ok.zeros.items) c.args.target c.in-Some.name c.args.self.now
+    c.take_data.new.self bound c.take_data.ensures)
