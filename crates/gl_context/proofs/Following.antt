@@ -31,7 +31,7 @@ use Rattle.command_stream.specs.declared.command.Command.{Command}
 use Rattle.command_stream.specs.declared.command.Command.TheVariants as command
 use Rattle.command_stream.specs.declared.object_commands.ObjectCommand.TheVariants.{MakeBuffer, DropBuffer}
 use Rattle.command_stream.specs.declared.buffer_commands.BufferCommand.TheVariants.{BindBuffer, BufferSize, BufferBytes}
-use Rattle.command_stream.specs.Plain as Stream
+use Rattle.command_stream.specs.Commands as Stream
 use Rattle.gl_model.specs.Buffers.{Buffer, new_buffer, view_of, take_target, take_data, patch}
 use Rattle.gl_model.specs.BufferState.{BufferState, changed_buffer, changed_if_bound, changed_bound, make_buffer, drop_buffer, bind_buffer, fill_buffer, patch_buffer, view_at, bound_view}
 use Rattle.gl_model.specs.BufferRefusals.{bind_rules, size_rules, part_rules}

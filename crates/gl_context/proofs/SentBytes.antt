@@ -14,7 +14,7 @@ use Rattle.call_records.specs.declared.calls.Call.TheVariants.{Buffer}
 use Rattle.call_records.specs.declared.buffer_calls.BufferCall.TheVariants.{BindBuffer as BindBufferCall, BufferData, BufferSubData}
 use Rattle.call_records.specs.declared.buffer_calls.Fill.{Fill}
 use Rattle.call_records.specs.declared.buffer_calls.Fill.TheVariants.{Size, Bytes}
-use Rattle.command_stream.specs.Plain as Stream
+use Rattle.command_stream.specs.Commands as Stream
 use Rattle.call_records.specs.Records.{Fits}
 use Rattle.gl_context.specs.Steps.{bytes_of}
 
@@ -38,10 +38,10 @@ allowed_bytes target offset part short = simp (length-append, length-le32) (omeg
 
 -- a name's body is short
 pub allowed_make : (name : ℕ) → Allowed (command.Object (MakeBuffer name))
-allowed_make name = simp length-le32 (omega arith)
+allowed_make name = simp (length-append, length-le32) (omega arith)
 
 pub allowed_drop : (name : ℕ) → Allowed (command.Object (DropBuffer name))
-allowed_drop name = simp length-le32 (omega arith)
+allowed_drop name = simp (length-append, length-le32) (omega arith)
 
 -- a target's and a name's body is short
 pub allowed_bind : (target name : ℕ) → Allowed (command.Buffer (BindBuffer target name))
@@ -61,28 +61,28 @@ part_fit target offset tail fits =
 
 -- which commands fit a stream, by their words
 pub fits_make : (name : ℕ) → name < 2 ^ 32 → Stream.Fits (command.Object (MakeBuffer name))
-fits_make name small = record { words = small; body = allowed_make name }
+fits_make name small = record { values = (small, tt); tail = refl; body = allowed_make name }
 
 pub fits_drop : (name : ℕ) → name < 2 ^ 32 → Stream.Fits (command.Object (DropBuffer name))
-fits_drop name small = record { words = small; body = allowed_drop name }
+fits_drop name small = record { values = (small, tt); tail = refl; body = allowed_drop name }
 
 pub fits_bind : (target name : ℕ) → target < 2 ^ 32 → name < 2 ^ 32 → Stream.Fits (command.Buffer (BindBuffer target name))
-fits_bind target name t n = record { words = (t, n); body = allowed_bind target name }
+fits_bind target name t n = record { values = (t, (n, tt)); tail = refl; body = allowed_bind target name }
 
 pub fits_size : (target usage size : ℕ) → target < 2 ^ 32 → usage < 2 ^ 32 → size < 2 ^ 32 → Stream.Fits (command.Buffer (BufferSize target usage size))
-fits_size target usage size t u s = record { words = (t, u, s); body = allowed_size target usage size }
+fits_size target usage size t u s = record { values = (t, (u, (s, tt))); tail = refl; body = allowed_size target usage size }
 
 pub fits_bytes : (target offset : ℕ) (part : Bor (List ℕ)) → target < 2 ^ 32 → offset < 2 ^ 32 → 8 + length part.now ≤ 16777280
     → Stream.Fits (command.Buffer (BufferBytes target offset part))
-fits_bytes target offset part t o short = record { words = (t, o); body = allowed_bytes target offset part short }
+fits_bytes target offset part t o short = record { values = (t, (o, tt)); tail = tt; body = allowed_bytes target offset part short }
 
 -- the words of calls that have records
 pub bind_words : (target handle : ℕ) → Fits (Buffer (BindBufferCall target handle)) → target < 2 ^ 32
-bind_words target handle fits = fits.words.0
+bind_words target handle fits = fits.values.0
 
 pub data_words : (target usage : ℕ) (fill : Fill) → Fits (Buffer (BufferData target usage fill)) → (target < 2 ^ 32) × (usage < 2 ^ 32)
-data_words target usage (Size size) fits = (fits.words.0, fits.words.1)
-data_words target usage (Bytes bytes) fits = (fits.words.0, fits.words.1)
+data_words target usage (Size size) fits = (fits.values.0, fits.values.1.0)
+data_words target usage (Bytes bytes) fits = (fits.values.0, fits.values.1.0)
 
 pub part_words : (target : ℕ) (offset : ℤ) (tail : Bor (List ℕ)) → Fits (Buffer (BufferSubData target offset tail)) → target < 2 ^ 32
-part_words target offset tail fits = fits.words.0
+part_words target offset tail fits = fits.values.0

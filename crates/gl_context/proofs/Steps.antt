@@ -23,7 +23,7 @@ use Rattle.call_records.specs.declared.query_calls.QueryCall.TheVariants.{GetErr
 use Rattle.call_records.specs.declared.replies.Value.TheVariants.{Nothing}
 use Rattle.call_records.specs.declared.replies.Reply.{Reply}
 use Rattle.command_stream.specs.declared.command.Command.{Command}
-use Rattle.command_stream.specs.Plain as Stream
+use Rattle.command_stream.specs.Commands as Stream
 use Rattle.gl_model.specs.Errors.{ErrorSet, raise, smallest, clear_one}
 use Rattle.gl_model.specs.PageState.{PageState}
 use Rattle.gl_model.specs.DriverState.{DriverState}

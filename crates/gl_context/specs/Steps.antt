@@ -8,7 +8,7 @@ use Rattle.call_records.specs.declared.calls.Call.{Call}
 use Rattle.call_records.specs.declared.replies.Reply.{Reply}
 use Rattle.command_stream.specs.declared.command.Command.{Command}
 use Rattle.command_stream.specs.Commands.{command_encoding}
-use Rattle.command_stream.specs.Plain.{Fits}
+use Rattle.command_stream.specs.Commands.{Fits}
 use Rattle.gl_model.specs.PageState.{PageState}
 use Rattle.gl_model.specs.DriverState.{DriverState}
 use Rattle.gl_model.specs.Replay.{replay, clean}

@@ -1,4 +1,4 @@
-ghost use Rattle.std.specs.Prelude.{◌≡◌, ◌↔◌, false, true, IsOk, IfOk, IsTrue, OnErr};
+ghost use Rattle.std.specs.Prelude.{◌≡◌, ◌≤◌, ◌↔◌, false, true, IsOk, IfOk, IsTrue, OnErr};
 ghost use Rattle.std.specs.Io.KnownBytes.{append_known};
 ghost use Rattle.gl_numbers.specs.Errors.{code_of};
 ghost use Rattle.gl_model.specs.Errors.{raise};
@@ -70,6 +70,7 @@ impl Context {
     /// rose; then a prefix of the header was written.
     pub fn open<S: Sink>(alloc: Global, stream: &mut S) -> Result<Context, Open>
         ensures opens { Opens (S.held stream.old) (S.held stream.new) result }
+        ensures later { S.faults stream.old ≤ S.faults stream.new }
         ensures cause { result ≡ Err Open.Write → Rose (S.faults stream.old) (S.faults stream.new) }
     {
         let Ok(()) = write_start(stream) else {
