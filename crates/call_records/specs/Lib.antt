@@ -1,3 +1,4 @@
+pub mod RecordBuf
 pub mod ObjectRecords
 pub mod BufferRecords
 pub mod QueryRecords

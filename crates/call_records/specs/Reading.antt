@@ -1,4 +1,4 @@
--- What the reader of a session answers, as facts about the bytes that were left before and are left after.
+-- What the reader of a session returns, as facts about the bytes that were left before and are left after.
 use Rattle.std.specs.Prelude.{◌≡◌, ℕ, ◌+◌, ◌<◌, ◌≤◌, ◌^◌, ◌⊎◌, true, false, List, [], ◌∷◌, ◌++◌, length, Result, Ok, Err, IfErr}
 use Rattle.gl_numbers.specs.Bytes.{le32}
 use Rattle.wire_io.specs.Faults.{Rose}
@@ -62,7 +62,7 @@ StartRefuses old new (Version n) = (n ≡ 4) × (words : TwoWords old new) × (w
 StartRefuses old new ReadFault = FailsInStart old new
 StartRefuses old new _ = ⊥
 
--- what reading a session's header answers
+-- what reading a session's header returns
 abbrev pub StartAnswers : List ℕ → List ℕ → Result (Unit {0}) ReadEnd → Type 0
 StartAnswers old new (Ok _) = old ≡ session_start ++ new
 StartAnswers old new (Err e) = StartRefuses old new e
@@ -78,13 +78,13 @@ Refuses at old new (InputLong n) = (n ≡ at) × (INPUT_MAX < at + HEADER_BYTES)
 Refuses at old new ReadFault = FailsInRecord old new
 Refuses at old new _ = ⊥
 
--- what reading the record at an offset answers
+-- what reading the record at an offset returns
 abbrev pub Answers : ℕ → List ℕ → List ℕ → Result Steps.Step ReadEnd → Type 0
 Answers at old new (Ok (Call call)) = old ≡ encoding call ++ new
 Answers at old new (Ok End) = (old ≡ closing_record) × (new ≡ [])
 Answers at old new (Err e) = Refuses at old new e
 
--- the number of faults hasn't fallen, and ReadFault is answered only where it rose
+-- the number of faults hasn't fallen, and ReadFault is returned only where it rose
 pub record ReadCause {T : Type 0} (before now : ℕ) (result : Result T ReadEnd) : Type 0 where
   pub later : before ≤ now
   pub failed : IfErr result (λ end. end ≡ ReadFault → Rose before now)

@@ -1,6 +1,6 @@
 //! The records of a session (this project's own format): WebGL 1.0 calls as little-endian bytes, and the
 //! replies to them. The contract in one sentence: what a call of the reader takes is the encoding of its
-//! answer, each refusal comes exactly at its cause in the bytes, and what is written is the reply's encoding.
+//! result, each refusal comes exactly at its cause in the bytes, and what is written is the reply's encoding.
 #![tactic(auto)]
 
 mod buffer_calls;

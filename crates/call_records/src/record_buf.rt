@@ -1,5 +1,7 @@
 ghost use Rattle.std.specs.Prelude.{◌≡◌, ℕ, List, length, IfOk};
+ghost use Rattle.std.specs.Borrow.{sem};
 ghost use Rattle.call_records.specs.declared.operations.TheConstants.{BODY_MAX};
+ghost use Rattle.call_records.specs.RecordBuf.{LendsBytes};
 
 use crate::operations::BODY_MAX;
 use gl_numbers::Memory;
@@ -34,8 +36,9 @@ impl RecordBuf {
         }
     }
 
-    /// All of its bytes.
+    /// All of its bytes. What is written through the result is the buffer's.
     pub fn bytes_mut(&mut self) -> &mut [u8]
+        ensures* writes_back { sem 𝓛 (LendsBytes self.entry result) }
         ensures value { result.now ≡ self.old }
         ensures len { length result.now ≡ BODY_MAX }
     {

@@ -35,7 +35,7 @@ pub enum Value {
     Active { size: u32, kind: u32, name: Name },
 }
 
-/// The answer to one call.
+/// The reply to one call.
 #[derive(Clone, Copy, Debug, PartialEq, Eq)]
 pub struct Reply {
     /// The code of the error that the call raised, or 0.
@@ -44,7 +44,7 @@ pub struct Reply {
     pub value: Value,
 }
 
-/// Writes the words' bytes to the prefix of `into`, and answers how many they are.
+/// Writes the words' bytes to the prefix of `into`, and returns how many they are.
 fn fill_words(words: &[u32], into: &mut [u8; 64]) -> usize
     requires { length words.now ≤ 16 }
     ensures count { result ≡ 4 * length words.now }
