@@ -6,8 +6,8 @@ use crate::buffer_commands::BufferOperation;
 use crate::object_commands::ObjectOperation;
 use crate::row::Row;
 
-/// The bytes that a stream begins with.
-pub const STREAM_MAGIC: [u8; 4] = [b'E', b'S', b'C', b'S'];
+/// What a stream begins with: `ESCS` as a word, the low byte first.
+pub const STREAM_MAGIC: u32 = 0x5343_5345;
 
 /// The version that a stream's header names.
 pub const STREAM_VERSION: u32 = 1;
@@ -53,10 +53,9 @@ impl Operation {
         ensures found { result ≡ operation_numbered n }
         ensures number { IfSome result (λ operation. number_of operation ≡ n) }
     {
-        match ObjectOperation::numbered(n) {
-            Some(operation) => Some(Operation::Object(operation)),
-            None => BufferOperation::numbered(n).map(Operation::Buffer),
-        }
+        ObjectOperation::numbered(n)
+            .map(Operation::Object)
+            .or_else(|| BufferOperation::numbered(n).map(Operation::Buffer))
     }
 
     /// Whether a body of `len` bytes is one of this operation's.

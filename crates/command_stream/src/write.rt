@@ -12,7 +12,7 @@ use crate::command::Command;
 use crate::object_commands::write_object_command;
 use crate::operation::{HEADER_BYTES, Operation, STREAM_MAGIC, STREAM_VERSION};
 use crate::taking::hold;
-use gl_numbers::word_bytes;
+use gl_numbers::{two_words, word_bytes};
 use wire_io::{Failed, Sink, write_all};
 
 /// No operation has more fields, counted in words.
@@ -26,9 +26,7 @@ const HEAD_MAX: usize = 40;
 pub fn start() -> [u8; 8]
     ensures { result ≡ stream_start }
 {
-    let [m0, m1, m2, m3] = STREAM_MAGIC;
-    let [v0, v1, v2, v3] = STREAM_VERSION.to_le_bytes();
-    [m0, m1, m2, m3, v0, v1, v2, v3]
+    two_words(STREAM_MAGIC, STREAM_VERSION)
 }
 
 /// Writes the stream's header; after Failed a prefix of it was appended.
