@@ -16,7 +16,8 @@ use Rattle.command_stream.proofs.Decoding.{decoded-stream, decoded-one, stream-n
 use Rattle.gl_model.specs.DriverState.{first_driver}
 use Rattle.gl_model.specs.DriverStep.{Fault}
 use Rattle.gl_model.specs.Replay.{Replayed, replay}
-use Rattle.session_run.specs.ReplayOutcomes.{Begins, HasOtherStart, HasBadHeader, HasLateHeader, EndsInCommand, HasFault, FaultsAt, Stops, IsReplayed, status_of_end}
+use Rattle.session_run.specs.ReplayOutcomes.{Begins, HasOtherStart, HasBadHeader, HasLateHeader, EndsInCommand, HasFault, FaultsAt, Stops, IsReplayed}
+use Rattle.session_run.specs.Statuses.{status_of_end}
 use Rattle.session_run.specs.declared.replay.ReplayEnd.{ReplayEnd}
 use Rattle.session_run.specs.declared.replay.ReplayEnd.TheVariants.{Truncated, Magic, Version, Refused, Late, Faults, Memory, Read}
 use Rattle.session_run.proofs.OneStream.{plain-replay}

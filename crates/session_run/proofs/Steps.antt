@@ -29,6 +29,7 @@ use Rattle.session_run.specs.Applied.{Applies, StepsOrStops}
 use Rattle.session_run.specs.Stands.{Kept, Agrees, Stands}
 use Rattle.session_run.specs.Follows.{Follows}
 use Rattle.session_run.proofs.Agreement.{agrees-errors}
+use Rattle.session_run.proofs.FitCommands.{fits-judged}
 use Rattle.session_run.proofs.Following.{follows-none, follows-create, follows-delete, follows-bind, follows-size, follows-data, follows-sub_data}
 use Rattle.session_run.proofs.Sound.{content-small}
 
@@ -105,8 +106,18 @@ steps_applied w g call before kept old new (Ok reply) stands fits a =
       driver = follows.driver;
       applied = a;
       exact = refl;
+      fits = fits-judged w call (is_out_of_memory reply) (refusal w call) stands.keeps.sound fits refl;
       sends = a.sends;
       replayed = follows.replayed;
       stands = record { keeps = a.keeps; agrees = follows.agrees };
     }
-steps_applied w g call before kept old new (Err failed) stands fits a = a
+steps_applied w g call before kept old new (Err failed) stands fits a =
+    let follows = follows-step w g call false stands.agrees fits in
+    record {
+      commands = sent w call false;
+      driver = follows.driver;
+      exact = refl;
+      fits = fits-judged w call false (refusal w call) stands.keeps.sound fits refl;
+      sends = a;
+      replayed = follows.replayed;
+    }

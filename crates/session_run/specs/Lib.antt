@@ -9,7 +9,12 @@ pub mod Codes
 pub mod Found
 pub mod Applied
 pub mod Follows
-pub mod Sessions
+pub mod Ends
+pub mod Serving
+pub mod Loop
+pub mod Unchanged
+pub mod Statuses
+pub mod Reads
 pub mod Causes
 pub mod Outcomes
 pub mod Filled

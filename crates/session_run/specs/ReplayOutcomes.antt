@@ -15,6 +15,7 @@ use Rattle.gl_model.specs.DriverState.{first_driver}
 use Rattle.gl_model.specs.DriverStep.{Fault, gl_error, outside_fetch}
 use Rattle.gl_model.specs.Replay.{Replayed, replay}
 use Rattle.session_run.specs.Outcomes.{ReplaysTo}
+use Rattle.session_run.specs.Statuses.{status_of_end}
 use Rattle.session_run.specs.Tallies.{tally_of, line_of}
 use Rattle.session_run.specs.declared.tally.Tally.{Tally}
 use Rattle.session_run.specs.declared.replay.ReplayEnd.{ReplayEnd}
@@ -144,17 +145,6 @@ pub record PartlyToldStream (out0 out : Option (List ℕ)) (input left : List �
   pub said : ℕ
   pub said_within : said ≤ length (line_of (replay first_driver stream_is.commands))
   pub told : out ≡ append_known out0 (take said (line_of (replay first_driver stream_is.commands)))
-
--- the status of a replay that stopped: its kind by number, and its place
-abbrev pub status_of_end : ReplayEnd → Statuses.Status
-status_of_end (Truncated at) = Status.Truncated at
-status_of_end Magic = Status.BadInput 0 2
-status_of_end Version = Status.BadInput 4 3
-status_of_end (Refused at) = Status.BadInput at 4
-status_of_end (Late at) = Status.BadInput at 9
-status_of_end (Faults number code) = Status.ReplayFault number code
-status_of_end Memory = Status.OutOfMemory
-status_of_end Read = Status.ReadFault
 
 -- a replay stopped in a way that has this status
 pub record StoppedAs (status : Statuses.Status) (input left : List ℕ) : Type 0 where

@@ -6,8 +6,10 @@
 
 mod buffer_calls;
 mod errors;
+mod kinds;
 mod object_calls;
 mod page;
+mod records;
 mod replay;
 mod sending;
 mod session;

@@ -7,15 +7,18 @@ ghost use Rattle.wire_io.specs.Faults.{HasCause};
 ghost use Rattle.call_records.specs.Records.{Fits};
 ghost use Rattle.call_records.specs.declared.replies.Value.TheVariants.{Nothing};
 ghost use Rattle.session_run.specs.Stands.{Keeps, IsKept, Stands};
-ghost use Rattle.session_run.specs.Applied.{Acts, Applies, StepsOrStops};
+ghost use Rattle.session_run.specs.Applied.{Acts, Applies, StepsOrStops, Opens, OpenCause};
 
 use crate::errors::ErrorFlags;
 use buffer_store::Buffers;
 use call_records::{Call, New, Reply, Value};
+use command_stream::write_start;
 use gl_numbers::{GlError, NO_ERROR};
 use object_names::Names;
 use std::alloc::Global;
 use std::marker::Model;
+use std::sync::ledger::Ledger;
+use step_count::Steps;
 use wire_io::{Failed, Sink};
 
 /// What is kept of a page between calls: the names of its objects, its buffers with what is bound, and the error
@@ -28,6 +31,15 @@ pub struct Page {
     pub buffers: Buffers,
     /// The errors that were raised.
     pub errors: ErrorFlags,
+}
+
+/// Why no page was opened.
+#[derive(Clone, Copy, Debug, PartialEq, Eq)]
+pub enum Open {
+    /// Memory ran out.
+    Memory,
+    /// The stream failed.
+    Write,
 }
 
 impl Model for Page {
@@ -50,6 +62,17 @@ impl Page {
             names: Names::new(alloc),
             buffers: Buffers::new(alloc),
             errors: ErrorFlags::new(),
+        }
+    }
+
+    /// Opens a page: writes the stream's header.
+    pub fn open<T: Sink>(alloc: Global, stream: &mut T) -> Result<Self, Open>
+        ensures opens { Opens (T.held stream.old) (T.held stream.new) result }
+        ensures cause { OpenCause (T.faults stream.old) (T.faults stream.new) result }
+    {
+        match write_start(stream) {
+            Ok(()) => Ok(Page::new(alloc)),
+            Err(Failed) => Err(Open::Write),
         }
     }
 
@@ -112,7 +135,12 @@ impl Page {
     /// Answers a call with the step of the page's machine, and sends its commands to the driver. After Failed a prefix of them
     /// was sent, and the page isn't used again.
     #[tactic(auto, using(crate::proofs::Steps::steps_applied))]
-    pub fn apply<T: Sink>(&mut self, call: &Call<'_>, stream: &mut T) -> Result<Reply, Failed>
+    pub fn apply<T: Sink, L: Ledger>(
+        &mut self,
+        call: &Call<'_>,
+        stream: &mut T,
+        _steps: &mut Steps<L>,
+    ) -> Result<Reply, Failed>
         requires fits { Fits call.now }
         requires kept { IsKept self.old }
         ensures applies { (w : PageState) → Keeps self.old w → Applies w call.now self.new (T.held stream.old) (T.held stream.new) result }

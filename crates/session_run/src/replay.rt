@@ -8,7 +8,8 @@ ghost use Rattle.gl_model.specs.DriverState.{first_driver};
 ghost use Rattle.gl_model.specs.Replay.{replay};
 ghost use Rattle.session_run.specs.Tallies.{counts};
 ghost use Rattle.session_run.specs.Playing.{SoFar, Playing, PlaysOne, StepsOn, TakesPiece, HasMagic, ReadsOn, StreamCause, FinishesOne, TellsLine};
-ghost use Rattle.session_run.specs.ReplayOutcomes.{Played, ReplayOutcome, IsSilent, ReplayCause, IsReplayed, status_of_end};
+ghost use Rattle.session_run.specs.Statuses.{status_of_end};
+ghost use Rattle.session_run.specs.ReplayOutcomes.{Played, ReplayOutcome, IsSilent, ReplayCause, IsReplayed};
 
 use crate::tally::Tally;
 use call_records::INPUT_MAX;

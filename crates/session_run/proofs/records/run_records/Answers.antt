@@ -1,17 +1,15 @@
 -- Each call that is read and answered joins those that were taken.
 use Rattle.std.proofs.Common.{arith, ◌≤◌, ◌+◌, ◌^◌, length}
 use Rattle.call_records.specs.Records.{encoding}
-use Rattle.session_run.proofs.Cutting.{cut_short}
-use Rattle.session_run.proofs.Looping.{begins, goes_on, nearer}
-use Rattle.session_run.proofs.session.run_records.Goals as goal
+use Rattle.session_run.proofs.Looping.{begins, goes_on, cut_short, nearer}
+use Rattle.session_run.proofs.Reading.{ran_whole, ran_refused}
+use Rattle.session_run.proofs.records.run_records.Goals as goal
 
 pub loop-call-init : goal.loop-call-init
 loop-call-init g c = record {
-  so_far = begins _ _ _ c.args.page.now c.requires;
+  so_far = begins _ c.args.page.now c.requires;
   within = omega arith;
-  input_later = omega arith;
-  out_later = omega arith;
-  stream_later = omega arith;
+  later = record { input = omega arith; out = omega arith; stream = omega arith };
 }
 
 pub loop-call-smaller : goal.loop-call-smaller
@@ -26,14 +24,19 @@ loop-call-preserved g c =
     let room : c.loop-call.at + 8 ≤ 2 ^ 62 = c.in-Ok-Call.ensures.room in
     let so_far = c.loop-call.invariant.so_far in
     record {
-      so_far = goes_on _ _ _ _ _ _ _ _ _ _ _ _ _ c.in-Ok-Call.call so_far (rw c.in-Ok-Call.field-0-is at c.in-Ok-Call.ensures.fits) (rw c.in-Ok-Call.field-0-is at c.in-Ok-Call.ensures.taken) c.size.ensures (c.in-Ok.ensures.answers _ so_far.keeps);
+      so_far = goes_on _ _ _ _ _ _ _ c.in-Ok-Call.call so_far (rw c.in-Ok-Call.field-0-is at c.in-Ok-Call.ensures.fits) room
+          (rw c.in-Ok-Call.field-0-is at c.in-Ok-Call.ensures.taken) c.size.ensures (c.in-Ok.ensures.answers _ _ so_far.stands);
       within = omega (arith, size, room, c.size.ensures);
-      input_later = omega (arith, c.in-Ok-Call.ensures.cause.later);
-      out_later = omega (arith, c.in-Ok.ensures.cause.out_later);
-      stream_later = omega (arith, c.in-Ok.ensures.cause.stream_later);
+      later = record {
+        input = omega (arith, c.in-Ok-Call.ensures.cause.later);
+        out = omega (arith, c.in-Ok.ensures.cause.out_later);
+        stream = omega (arith, c.in-Ok.ensures.cause.stream_later);
+      };
     }
 
 pub returns-in_default-clause-runs : goal.returns-in_default-clause-runs
 returns-in_default-clause-runs g c =
     let so_far = c.loop-call.invariant.so_far in
-    cut_short _ _ _ _ _ _ _ _ _ _ _ c.in-Ok-Call.call so_far (rw c.in-Ok-Call.field-0-is at c.in-Ok-Call.ensures.fits) (rw c.in-Ok-Call.field-0-is at c.in-Ok-Call.ensures.taken) (c.in_default.ensures.answers _ so_far.keeps)
+    let room : c.loop-call.at + 8 ≤ 2 ^ 62 = c.in-Ok-Call.ensures.room in
+    cut_short _ _ _ _ _ c.in-Ok-Call.call so_far (rw c.in-Ok-Call.field-0-is at c.in-Ok-Call.ensures.fits) room
+    (rw c.in-Ok-Call.field-0-is at c.in-Ok-Call.ensures.taken) (c.in_default.ensures.answers _ _ so_far.stands)
