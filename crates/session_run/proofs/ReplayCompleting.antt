@@ -18,8 +18,8 @@ use Rattle.gl_model.specs.DriverStep.{Fault}
 use Rattle.gl_model.specs.Replay.{Replayed, replay}
 use Rattle.session_run.specs.ReplayOutcomes.{Begins, HasOtherStart, HasBadHeader, HasLateHeader, EndsInCommand, HasFault, FaultsAt, Stops, IsReplayed}
 use Rattle.session_run.specs.Statuses.{status_of_end}
-use Rattle.session_run.specs.declared.replay.ReplayEnd.{ReplayEnd}
-use Rattle.session_run.specs.declared.replay.ReplayEnd.TheVariants.{Truncated, Magic, Version, Refused, Late, Faults, Memory, Read}
+use Rattle.session_run.specs.declared.replay_end.ReplayEnd.{ReplayEnd}
+use Rattle.session_run.specs.declared.replay_end.ReplayEnd.TheVariants.{Truncated, Magic, Version, Refused, Late, Faults, Memory, Read}
 use Rattle.session_run.proofs.OneStream.{plain-replay}
 use Rattle.session_run.proofs.Playing.{length-stream}
 

@@ -18,8 +18,8 @@ use Rattle.session_run.specs.Outcomes.{ReplaysTo}
 use Rattle.session_run.specs.Statuses.{status_of_end}
 use Rattle.session_run.specs.Tallies.{tally_of, line_of}
 use Rattle.session_run.specs.declared.tally.Tally.{Tally}
-use Rattle.session_run.specs.declared.replay.ReplayEnd.{ReplayEnd}
-use Rattle.session_run.specs.declared.replay.ReplayEnd.TheVariants.{Truncated, Magic, Version, Refused, Late, Faults, Memory, Read}
+use Rattle.session_run.specs.declared.replay_end.ReplayEnd.{ReplayEnd}
+use Rattle.session_run.specs.declared.replay_end.ReplayEnd.TheVariants.{Truncated, Magic, Version, Refused, Late, Faults, Memory, Read}
 
 -- the header of each of these commands ends by byte 2^62 of their stream
 abbrev pub HeadersWithin : List Command → Type 0

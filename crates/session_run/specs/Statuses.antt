@@ -4,8 +4,8 @@ use Rattle.wire_io.specs.declared.status.Status.TheVariants as Status
 use Rattle.call_records.specs.declared.reading.ReadEnd as Reading
 use Rattle.call_records.specs.declared.reading.ReadEnd.TheVariants as Session
 use Rattle.session_run.specs.declared.kinds.TheConstants.{KIND_MAGIC, KIND_VERSION, KIND_OPERATION, KIND_BODY_LONG, KIND_BODY_SHAPE, KIND_AFTER_END, KIND_HEADER_LATE}
-use Rattle.session_run.specs.declared.replay.ReplayEnd as Replaying
-use Rattle.session_run.specs.declared.replay.ReplayEnd.TheVariants as Stream
+use Rattle.session_run.specs.declared.replay_end.ReplayEnd as Replaying
+use Rattle.session_run.specs.declared.replay_end.ReplayEnd.TheVariants as Stream
 
 -- the status of an end of reading a session: its kind by number, and its place
 abbrev pub status_of : Reading.ReadEnd → Statuses.Status

@@ -4,13 +4,17 @@
 //! clears and builds.
 #![tactic(auto)]
 
+mod applying;
 mod buffer_calls;
 mod errors;
 mod kinds;
+mod line;
 mod object_calls;
 mod page;
+mod pieces;
 mod records;
 mod replay;
+mod replay_end;
 mod sending;
 mod session;
 mod tally;

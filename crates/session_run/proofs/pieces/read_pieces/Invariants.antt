@@ -1,7 +1,7 @@
 -- What was read so far joins what was taken before.
 use Rattle.std.proofs.Common.{◌-◌, ◌≡◌, ℕ, ◌≤◌, ◌^◌, List}
 use Rattle.session_run.specs.Playing.{SoFar, ReadSoFar}
-use Rattle.session_run.proofs.replay.read_pieces.Given as goal
+use Rattle.session_run.proofs.pieces.read_pieces.Given as goal
 
 abbrev pub invariant-loop-n : goal.invariant-loop-n
 invariant-loop-n g l = record {

@@ -1,8 +1,8 @@
 -- What the decoder took is added to what was taken, and what the machine applied to what was replayed.
 use Rattle.std.proofs.Common.{◌≡◌, true, false, arith, sym, ◌∙◌}
 use Rattle.session_run.proofs.Playing.{bounds, next-room, fed, played, late, refused, stops-one}
-use Rattle.session_run.proofs.replay.step.Goals as goal
-use Rattle.session_run.proofs.replay.step.Goals.{else-idle-via-then-idle+else-taken-gt-INPUT_MAX, else-idle-via-else-idle}
+use Rattle.session_run.proofs.applying.step.Goals as goal
+use Rattle.session_run.proofs.applying.step.Goals.{else-idle-via-then-idle+else-taken-gt-INPUT_MAX, else-idle-via-else-idle}
 
 pub returns-then-taken-gt-INPUT_MAX-clause-steps : goal.returns-then-taken-gt-INPUT_MAX-clause-steps
 returns-then-taken-gt-INPUT_MAX-clause-steps c = λ all s.

@@ -4,7 +4,7 @@ use Rattle.std.proofs.lemmas.List.{length-take-le}
 use Rattle.session_run.proofs.Looping.{prepend-nothing}
 use Rattle.session_run.proofs.Playing.{bounds}
 use Rattle.session_run.proofs.ReplayReading.{read_none, read_more, read_stopped, read_failed, read_cut, not-read}
-use Rattle.session_run.proofs.replay.read_pieces.Goals as goal
+use Rattle.session_run.proofs.pieces.read_pieces.Goals as goal
 
 pub loop-n-init : goal.loop-n-init
 loop-n-init g c = record {

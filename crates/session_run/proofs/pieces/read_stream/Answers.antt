@@ -2,7 +2,7 @@
 use Rattle.std.proofs.Common.{rules, ◌≡◌, ◌<◌, ◌^◌, [], length, arith}
 use Rattle.command_stream.specs.declared.operation.TheConstants.{START_BYTES}
 use Rattle.session_run.proofs.ReplayReading.{has_magic, other_magic, read_prefix, reads_behind, start_stopped, magic_read, not-read}
-use Rattle.session_run.proofs.replay.read_stream.Goals as goal
+use Rattle.session_run.proofs.pieces.read_stream.Goals as goal
 
 pub returns-then-u32_at-ne-STREAM_MAGIC-clause-reads :
     goal.returns-then-u32_at-ne-STREAM_MAGIC-clause-reads

@@ -1,7 +1,7 @@
 -- What was taken of the piece so far joins what was taken before.
 use Rattle.std.proofs.Common.{length, take, ◌-◌, ℕ, ◌≤◌, ◌++◌, List}
 use Rattle.session_run.specs.Playing.{SoFar}
-use Rattle.session_run.proofs.replay.take_piece.Given as goal
+use Rattle.session_run.proofs.pieces.take_piece.Given as goal
 
 abbrev pub invariant-loop-used : goal.invariant-loop-used
 invariant-loop-used l = record {

@@ -4,7 +4,7 @@ use Rattle.std.proofs.lemmas.List.{length-take-le, length-drop}
 use Rattle.wire_io.proofs.Prefixes.{rest_of}
 use Rattle.session_run.specs.Playing.{SoFar, PieceStops}
 use Rattle.session_run.proofs.Playing.{bounds, piece-more, piece-rest}
-use Rattle.session_run.proofs.replay.take_piece.Goals as goal
+use Rattle.session_run.proofs.pieces.take_piece.Goals as goal
 
 pub overflow_add-taken : goal.overflow_add-taken
 overflow_add-taken c =
