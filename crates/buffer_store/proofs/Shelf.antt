@@ -9,7 +9,7 @@ use Rattle.std.specs.declared.cmp.Ordering.{Ordering}
 use Rattle.std.specs.declared.cmp.Ordering.TheVariants.{Less, Equal, Greater}
 use Rattle.std.specs.Cmp.{nat_cmp_total, unsigned_tied}
 use Rattle.std.specs.FinMap.{FinMap, empty, get, insert, remove, find, get-empty, get-from_entries, get-insert, get-remove, same_map, nat_cmp-IsAntisymmetric}
-use Rattle.buffer_store.specs.Buffer.{Buffer}
+use Rattle.buffer_store.specs.StoredBuffer.{StoredBuffer}
 use Rattle.buffer_store.specs.Stored.{Shelf, changed_at}
 use Rattle.buffer_store.specs.Slots.{slots_from, shelf_of}
 
@@ -40,7 +40,7 @@ unchanged_at : (shelf : Shelf) (h q : ℕ) → get shelf h ≡ None → (b : Boo
 unchanged_at shelf h q at true e = ap (get shelf) (eqb-true q h e) ∙ at
 unchanged_at shelf h q at false e = refl
 
-pub get-changed_at : (shelf : Shelf) (h : ℕ) (f : Buffer → Buffer) (o : Option Buffer) (q : ℕ) → get shelf h ≡ o
+pub get-changed_at : (shelf : Shelf) (h : ℕ) (f : StoredBuffer → StoredBuffer) (o : Option StoredBuffer) (q : ℕ) → get shelf h ≡ o
     → get (changed_at shelf h f o) q ≡ cond (q == h) (option_map f o) (get shelf q)
 get-changed_at shelf h f None q at = unchanged_at shelf h q at (q == h) refl
 get-changed_at shelf h f (Some b) q at = get-inserted shelf h (f b) q
@@ -51,14 +51,14 @@ tied_apart q n apart true e = absurd (apart (eqb-true q n e))
 tied_apart q n apart false e = unsigned_tied q n ∙ e
 
 -- no slot from n on has a place below n
-find_below : (q n : ℕ) (slots : List (Option Buffer)) → q < n → find nat_cmp q (slots_from n slots) ≡ None
+find_below : (q n : ℕ) (slots : List (Option StoredBuffer)) → q < n → find nat_cmp q (slots_from n slots) ≡ None
 unfolding slots_from
 find_below q n [] l = refl
 find_below q n (None ∷ slots) l = find_below q (suc n) slots (omega arith)
 find_below q n (Some b ∷ slots) l = cond-false _ _ _ (tied_apart q n (λ e. omega (arith, e)) (q == n) refl) ∙ find_below q (suc n) slots (omega arith)
 
 -- what is found at a place is what the slot has
-find_slot : (q i n : ℕ) (slots : List (Option Buffer)) → q ≡ n + i → find nat_cmp q (slots_from n slots) ≡ get_or slots i None
+find_slot : (q i n : ℕ) (slots : List (Option StoredBuffer)) → q ≡ n + i → find nat_cmp q (slots_from n slots) ≡ get_or slots i None
 unfolding slots_from
 find_slot q i n [] e = refl
 find_slot q zero n (None ∷ slots) e = find_below q (suc n) slots (omega arith)
@@ -67,7 +67,7 @@ find_slot q (suc i) n (None ∷ slots) e = find_slot q i (suc n) slots (omega ar
 find_slot q (suc i) n (Some b ∷ slots) e = cond-false _ _ _ (tied_apart q n (λ f. omega (arith, f)) (q == n) refl) ∙ find_slot q i (suc n) slots (omega arith)
 
 -- what the shelf has at a handle
-pub get-shelf : (slots : List (Option Buffer)) (q : ℕ) → get (shelf_of slots) q ≡ get_or slots q None
+pub get-shelf : (slots : List (Option StoredBuffer)) (q : ℕ) → get (shelf_of slots) q ≡ get_or slots q None
 unfolding shelf_of
 get-shelf slots q = get-from_entries nat_cmp_total (slots_from 0 slots) q ∙ find_slot q q 0 slots (omega arith)
 
@@ -85,34 +85,34 @@ get_or-written xs i q x d l true e = ap (λ k. get_or (set xs i x) k d) (eqb-tru
 get_or-written xs i q x d l false e = get_or-set_other xs i q x d (eqb-false q i e)
 
 -- a buffer put into a slot is one inserted into the shelf
-pub shelf-put : (slots : List (Option Buffer)) (h : ℕ) (b : Buffer) → h < length slots → shelf_of (set slots h (Some b)) ≡ insert (shelf_of slots) h b
+pub shelf-put : (slots : List (Option StoredBuffer)) (h : ℕ) (b : StoredBuffer) → h < length slots → shelf_of (set slots h (Some b)) ≡ insert (shelf_of slots) h b
 shelf-put slots h b l = same_shelf _ _
     (λ q. get-shelf (set slots h (Some b)) q ∙ get_or-written slots h q (Some b) None l (q == h) refl
     ∙ ap (cond (q == h) (Some b)) (sym (get-shelf slots q)) ∙ sym (get-inserted (shelf_of slots) h b q))
 
 -- a cleared slot is a buffer removed from the shelf
-pub shelf-cleared : (slots : List (Option Buffer)) (h : ℕ) → h < length slots → shelf_of (set slots h None) ≡ remove (shelf_of slots) h
+pub shelf-cleared : (slots : List (Option StoredBuffer)) (h : ℕ) → h < length slots → shelf_of (set slots h None) ≡ remove (shelf_of slots) h
 shelf-cleared slots h l = same_shelf _ _
     (λ q. get-shelf (set slots h None) q ∙ get_or-written slots h q None None l (q == h) refl
     ∙ ap (cond (q == h) None) (sym (get-shelf slots q)) ∙ sym (get-removed (shelf_of slots) h q))
 
-absent_at : (slots : List (Option Buffer)) (h q : ℕ) → length slots ≤ h → (b : Bool) → (q == h) ≡ b → get_or slots q None ≡ cond b None (get_or slots q None)
+absent_at : (slots : List (Option StoredBuffer)) (h q : ℕ) → length slots ≤ h → (b : Bool) → (q == h) ≡ b → get_or slots q None ≡ cond b None (get_or slots q None)
 absent_at slots h q l true e = get_or_past slots q None (let same : q ≡ h = eqb-true q h e in omega arith)
 absent_at slots h q l false e = refl
 
 -- nothing is removed where there is no slot
-pub shelf-absent : (slots : List (Option Buffer)) (h : ℕ) → length slots ≤ h → remove (shelf_of slots) h ≡ shelf_of slots
+pub shelf-absent : (slots : List (Option StoredBuffer)) (h : ℕ) → length slots ≤ h → remove (shelf_of slots) h ≡ shelf_of slots
 shelf-absent slots h l = same_shelf _ _
     (λ q. get-removed (shelf_of slots) h q ∙ ap (cond (q == h) None) (get-shelf slots q) ∙ sym (absent_at slots h q l (q == h) refl) ∙ sym (get-shelf slots q))
 
-get_or-more : (slots : List (Option Buffer)) (q : ℕ) → get_or (slots ++ None ∷ []) q None ≡ get_or slots q None
+get_or-more : (slots : List (Option StoredBuffer)) (q : ℕ) → get_or (slots ++ None ∷ []) q None ≡ get_or slots q None
 get_or-more [] zero = refl
 get_or-more [] (suc q) = refl
 get_or-more (x ∷ slots) zero = refl
 get_or-more (x ∷ slots) (suc q) = get_or-more slots q
 
 -- one more empty slot changes nothing
-pub shelf-more : (slots : List (Option Buffer)) → shelf_of (slots ++ None ∷ []) ≡ shelf_of slots
+pub shelf-more : (slots : List (Option StoredBuffer)) → shelf_of (slots ++ None ∷ []) ≡ shelf_of slots
 shelf-more slots = same_shelf _ _ (λ q. get-shelf (slots ++ None ∷ []) q ∙ get_or-more slots q ∙ sym (get-shelf slots q))
 
 -- what stands at a handle

@@ -1,4 +1,4 @@
-pub mod Buffer
+pub mod StoredBuffer
 pub mod Content
 pub mod Held
 pub mod Stored

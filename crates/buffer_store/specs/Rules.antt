@@ -1,71 +1,74 @@
--- What each call refuses, and what it does where it refuses nothing (OpenGL ES 2.0 section 2.9, WebGL 1.0
--- sections 5.14.5 and 6.1).
-use Rattle.std.specs.Prelude.{◌≡◌, ℕ, ℤ, pos, negsuc, ◌+◌, nat_lt, if◌then◌else◌, Option, Some, None, Result, Ok, Err, List, length}
+-- The rules that refuse each call on the store, in their order, and what a call does that none refuses (OpenGL ES 2.0
+-- section 2.9, WebGL 1.0 sections 5.14.5 and 6.1).
+use Rattle.std.specs.Prelude.{◌≡◌, ℕ, ℤ, ◌+◌, Option, Some, None, Result, Ok, Err, List, [], ◌∷◌, length}
+use Rattle.std.specs.Option.{option_map}
 use Rattle.std.specs.FinMap.{remove}
 use Rattle.gl_numbers.specs.declared.buffer_words.BufferTarget.{BufferTarget}
 use Rattle.gl_numbers.specs.declared.buffer_words.BufferTarget.TheVariants.{Array, ElementArray}
 use Rattle.gl_numbers.specs.declared.buffer_words.Usage.{Usage}
 use Rattle.gl_numbers.specs.declared.errors.GlError.{GlError}
-use Rattle.gl_numbers.specs.declared.errors.GlError.TheVariants.{Value, Operation, Memory}
+use Rattle.gl_numbers.specs.declared.errors.GlError.TheVariants.{Memory}
+use Rattle.gl_numbers.specs.Refusals.{Rule, first_refusal}
+use Rattle.gl_numbers.specs.BufferBindings.{binding, bind, unbind}
+use Rattle.gl_numbers.specs.BufferRules.{BufferView, whole, bad_size, negative_offset, other_target, nothing_bound, past_the_end}
 use Rattle.buffer_store.specs.declared.content.Content.{Content}
-use Rattle.gl_numbers.specs.declared.limits.TheConstants.{BUFFER_BYTES_MAX}
 use Rattle.buffer_store.specs.Content.{size_of, buffer_of}
-use Rattle.buffer_store.specs.Buffer.{Buffer, is_of_other, with_first, with_bytes}
-use Rattle.buffer_store.specs.Stored.{Stored, binding, with_binding, changed, found, bound_buffer, without}
+use Rattle.buffer_store.specs.StoredBuffer.{StoredBuffer, view_of, with_first, with_bytes}
+use Rattle.buffer_store.specs.Stored.{Stored, changed, found, bound_buffer}
 
--- a call answers its refusal, if it has one
-abbrev pub Answers : Option GlError → Result (Unit {0}) GlError → Type 0
-Answers refusal (Ok _) = refusal ≡ None
-Answers refusal (Err e) = refusal ≡ Some e
+-- a call returns the error of the first rule that applies, and Ok where none does
+abbrev pub Judged : List Rule → Result (Unit {0}) GlError → Type 0
+Judged rules (Ok _) = first_refusal rules ≡ None
+Judged rules (Err error) = first_refusal rules ≡ Some error
 
--- a call that takes memory for this target may want it where nothing refuses
-abbrev pub AnswersOrRunsOut : BufferTarget → Option GlError → Result (Unit {0}) GlError → Type 0
-AnswersOrRunsOut t refusal (Ok _) = refusal ≡ None
-AnswersOrRunsOut t refusal (Err Memory) = (refusal ≡ None) × (t ≡ ElementArray)
-AnswersOrRunsOut t refusal (Err e) = refusal ≡ Some e
+-- the same of a call that may run out of memory, for the bytes of an element buffer alone and where no rule applies
+abbrev pub JudgedOrRunsOut : BufferTarget → List Rule → Result (Unit {0}) GlError → Type 0
+JudgedOrRunsOut target rules (Ok _) = first_refusal rules ≡ None
+JudgedOrRunsOut target rules (Err Memory) = (first_refusal rules ≡ None) × (target ≡ ElementArray)
+JudgedOrRunsOut target rules (Err error) = first_refusal rules ≡ Some error
 
--- a buffer stays with the target that it was first bound to
-abbrev pub refused_of : BufferTarget → Option Buffer → Option GlError
-refused_of t None = None
-refused_of t (Some b) = if is_of_other t b.first_target then Some Operation else None
+-- what the rules see of the buffer of a handle, if one is given and there
+abbrev pub view_at : Stored → Option ℕ → Option BufferView
+view_at s handle = option_map view_of (found s.buffers handle)
 
--- bindBuffer: the buffer was bound to the other target
-abbrev pub bind_refusal : Stored → BufferTarget → Option ℕ → Option GlError
-bind_refusal s t h = refused_of t (found s.buffers h)
+-- what the rules see of the buffer that is bound to a target
+abbrev pub bound_view : Stored → BufferTarget → Option BufferView
+bound_view s target = view_at s (binding s.bound target)
+
+-- bindBuffer: the buffer was first bound to the other target
+abbrev pub bind_rules : Stored → BufferTarget → Option ℕ → List Rule
+bind_rules s target handle = other_target (Some target) (view_at s handle) ∷ []
 
 -- bindBuffer: the target has this binding, and the buffer is of this target
-abbrev pub bound_to : Stored → BufferTarget → Option ℕ → Stored
-bound_to s t h = with_binding (record s { buffers = changed s.buffers h (with_first t) }) t h
-
--- a call needs a bound buffer
-abbrev pub refused_unbound : Option Buffer → Option GlError
-refused_unbound None = Some Operation
-refused_unbound (Some b) = None
+abbrev pub bound_to_target : Stored → BufferTarget → Option ℕ → Stored
+bound_to_target s target handle = record {
+  buffers = changed s.buffers handle (with_first target);
+  bound = bind (Some target) handle s.bound;
+}
 
 -- bufferData: the size is too large; no buffer is bound
-abbrev pub data_refusal : Stored → BufferTarget → Content → Option GlError
-data_refusal s t content = if nat_lt BUFFER_BYTES_MAX (size_of content) then Some Value else refused_unbound (bound_buffer s t)
+abbrev pub data_rules : Stored → BufferTarget → Content → List Rule
+data_rules s target content = bad_size (size_of content) ∷ nothing_bound (bound_view s target) ∷ []
 
 -- bufferData: the bound buffer has this content and usage
 abbrev pub filled : Stored → BufferTarget → Content → Usage → Stored
-filled s t content usage = record s { buffers = changed s.buffers (binding s t) (λ _. buffer_of t content usage) }
-
--- bytes up to `end` need a bound buffer that has them
-abbrev pub refused_past : ℕ → Option Buffer → Option GlError
-refused_past end None = Some Operation
-refused_past end (Some b) = if nat_lt b.size end then Some Value else None
+filled s target content usage =
+    record s { buffers = changed s.buffers (binding s.bound target) (λ _. buffer_of target content usage) }
 
 -- bufferSubData: the offset is negative; no buffer is bound; the bytes end past the buffer's end
-abbrev pub sub_data_refusal : Stored → BufferTarget → ℤ → List ℕ → Option GlError
-sub_data_refusal s t (negsuc n) bytes = Some Value
-sub_data_refusal s t (pos at) bytes = refused_past (at + length bytes) (bound_buffer s t)
+abbrev pub sub_data_rules : Stored → BufferTarget → ℤ → List ℕ → List Rule
+sub_data_rules s target offset bytes =
+    negative_offset offset
+    ∷ nothing_bound (bound_view s target)
+    ∷ past_the_end (whole offset + length bytes) (bound_view s target)
+    ∷ []
 
 -- bufferSubData: the bound buffer has these bytes from the offset on, as far as its bytes are kept
 abbrev pub patched : Stored → BufferTarget → ℤ → List ℕ → Stored
 patched s Array offset bytes = s
-patched s ElementArray (negsuc n) bytes = s
-patched s ElementArray (pos at) bytes = record s { buffers = changed s.buffers s.element_array (with_bytes at bytes) }
+patched s ElementArray offset bytes =
+    record s { buffers = changed s.buffers s.bound.element_array (with_bytes (whole offset) bytes) }
 
--- deleteBuffer: the buffer is gone, and nothing is bound to it
+-- deleteBuffer: the buffer is gone, and bound to nothing
 abbrev pub without_buffer : Stored → ℕ → Stored
-without_buffer s h = record { buffers = remove s.buffers h; array = without h s.array; element_array = without h s.element_array }
+without_buffer s handle = record { buffers = remove s.buffers handle; bound = unbind handle s.bound }

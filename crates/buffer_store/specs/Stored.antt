@@ -1,73 +1,58 @@
--- All buffers and both bindings (OpenGL ES 2.0 section 2.9).
-use Rattle.std.specs.Prelude.{◌≡◌, ℕ, ◌==◌, if◌then◌else◌, Option, Some, None, IsSomeAnd}
+-- All stored buffers, and what is bound (OpenGL ES 2.0 section 2.9).
+use Rattle.std.specs.Prelude.{◌≡◌, ℕ, Option, Some, None, IsSomeAnd}
+use Rattle.std.specs.Option.{option_and_then}
 use Rattle.std.specs.Ordering.{nat_cmp}
 use Rattle.std.specs.FinMap.{FinMap, empty, get, insert}
 use Rattle.gl_numbers.specs.declared.buffer_words.BufferTarget.{BufferTarget}
 use Rattle.gl_numbers.specs.declared.buffer_words.BufferTarget.TheVariants.{Array, ElementArray}
-use Rattle.buffer_store.specs.Buffer.{Buffer}
+use Rattle.gl_numbers.specs.BufferBindings.{Bindings, no_bindings, binding}
+use Rattle.buffer_store.specs.StoredBuffer.{StoredBuffer}
 
--- the buffers by handle
+-- the buffers that are there, by handle
 abbrev pub Shelf : Type 0
-Shelf = FinMap nat_cmp Buffer
+Shelf = FinMap nat_cmp StoredBuffer
 
--- the shelf with the buffer of a handle changed, if it is there
-abbrev pub changed_at : Shelf → ℕ → (Buffer → Buffer) → Option Buffer → Shelf
-changed_at shelf h f None = shelf
-changed_at shelf h f (Some b) = insert shelf h (f b)
+-- the shelf with the buffer of a handle changed, as it was found
+abbrev pub changed_at : Shelf → ℕ → (StoredBuffer → StoredBuffer) → Option StoredBuffer → Shelf
+changed_at shelf handle change None = shelf
+changed_at shelf handle change (Some b) = insert shelf handle (change b)
 
--- the same of a handle that may be none
-abbrev pub changed : Shelf → Option ℕ → (Buffer → Buffer) → Shelf
-changed shelf None f = shelf
-changed shelf (Some h) f = changed_at shelf h f (get shelf h)
+-- the shelf with the buffer of a handle changed, if a handle is given and its buffer is there
+abbrev pub changed : Shelf → Option ℕ → (StoredBuffer → StoredBuffer) → Shelf
+changed shelf None change = shelf
+changed shelf (Some handle) change = changed_at shelf handle change (get shelf handle)
 
 -- the buffers that are there, and the handle that is bound to each target
 pub record Stored : Type 0 where
   pub buffers : Shelf
-  pub array : Option ℕ
-  pub element_array : Option ℕ
+  pub bound : Bindings
 
 -- nothing is made and nothing bound
 abbrev pub nothing_stored : Stored
-nothing_stored = record { buffers = empty; array = None; element_array = None }
-
--- the handle that is bound to a target
-abbrev pub binding : Stored → BufferTarget → Option ℕ
-binding s Array = s.array
-binding s ElementArray = s.element_array
-
--- the same with another handle bound to a target
-abbrev pub with_binding : Stored → BufferTarget → Option ℕ → Stored
-with_binding s Array h = record s { array = h }
-with_binding s ElementArray h = record s { element_array = h }
+nothing_stored = record { buffers = empty; bound = no_bindings }
 
 -- the buffer of a handle, if one is given and there
-abbrev pub found : Shelf → Option ℕ → Option Buffer
-found shelf None = None
-found shelf (Some h) = get shelf h
+abbrev pub found : Shelf → Option ℕ → Option StoredBuffer
+found shelf handle = option_and_then (get shelf) handle
 
 -- the buffer that is bound to a target
-abbrev pub bound_buffer : Stored → BufferTarget → Option Buffer
-bound_buffer s t = found s.buffers (binding s t)
-
--- a binding without the handle h
-abbrev pub without : ℕ → Option ℕ → Option ℕ
-without h None = None
-without h (Some q) = if q == h then None else Some q
+abbrev pub bound_buffer : Stored → BufferTarget → Option StoredBuffer
+bound_buffer s target = found s.buffers (binding s.bound target)
 
 -- a buffer that is there and was first bound to this target
-abbrev pub IsOf : BufferTarget → Option Buffer → Type 0
-IsOf t b = IsSomeAnd b (λ b. b.first_target ≡ Some t)
+abbrev pub IsOf : BufferTarget → Option StoredBuffer → Type 0
+IsOf target buffer = IsSomeAnd buffer (λ b. b.first_target ≡ Some target)
 
--- a handle that is bound to a target names a buffer that was first bound to it
+-- a handle that is bound to a target names a buffer that was first bound to it (WebGL 1.0 section 6.1)
 abbrev pub IsBoundFirst : Shelf → BufferTarget → Option ℕ → Type 0
-IsBoundFirst shelf t None = Unit {0}
-IsBoundFirst shelf t (Some h) = IsOf t (get shelf h)
+IsBoundFirst shelf target None = Unit {0}
+IsBoundFirst shelf target (Some handle) = IsOf target (get shelf handle)
 
 -- what both bindings keep true
-pub record AreBoundFirst (s : Stored) : Type 0 where
-  pub array : IsBoundFirst s.buffers Array s.array
-  pub element_array : IsBoundFirst s.buffers ElementArray s.element_array
+pub record AreBoundFirst (shelf : Shelf) (bound : Bindings) : Type 0 where
+  pub array : IsBoundFirst shelf Array bound.array
+  pub element_array : IsBoundFirst shelf ElementArray bound.element_array
 
 -- each buffer that was first bound to a target stays one
 pub record KeepsFirst (old new : Shelf) : Type 0 where
-  pub stays : (h : ℕ) (t : BufferTarget) → IsOf t (get old h) → IsOf t (get new h)
+  pub stays : (handle : ℕ) (target : BufferTarget) → IsOf target (get old handle) → IsOf target (get new handle)

@@ -1,28 +1,28 @@
 ghost use Rattle.std.specs.Prelude.{◌≡◌, IsNone, IsSome, IfSome, OnOk, OnErr};
 ghost use Rattle.std.specs.Option.{ForSome};
 ghost use Rattle.std.specs.FinMap.{get, insert};
-ghost use Rattle.gl_numbers.specs.declared.buffer_words.BufferTarget.TheVariants.{ElementArray};
 ghost use Rattle.step_count.specs.Content.{content as lent};
+ghost use Rattle.gl_numbers.specs.declared.buffer_words.BufferTarget.TheVariants.{ElementArray};
 ghost use Rattle.gl_numbers.specs.BufferWords.{usage_word};
-ghost use Rattle.buffer_store.specs.Buffer.{IsSound, new_buffer};
+ghost use Rattle.gl_numbers.specs.BufferBindings.{binding};
+ghost use Rattle.buffer_store.specs.StoredBuffer.{IsSound, new_stored};
 ghost use Rattle.buffer_store.specs.Content.{HasShortBytes};
-ghost use Rattle.buffer_store.specs.Stored.{IsBoundFirst, IsOf, binding, nothing_stored, without};
-ghost use Rattle.buffer_store.specs.Rules.{Answers, AnswersOrRunsOut, bind_refusal, bound_to, data_refusal, filled, patched, sub_data_refusal, without_buffer};
+ghost use Rattle.buffer_store.specs.Stored.{IsBoundFirst, IsOf, nothing_stored};
+ghost use Rattle.buffer_store.specs.Rules.{Judged, JudgedOrRunsOut, bind_rules, bound_to_target, data_rules, filled, patched, sub_data_rules, without_buffer};
 
 use crate::Content;
 use crate::by_handle::ByHandle;
 use crate::held::Held;
-use gl_numbers::{BufferTarget, GlError, Handle, Memory, Usage};
+use gl_numbers::{BufferBindings, BufferTarget, GlError, Handle, Memory, Usage};
 use std::alloc::Global;
 use std::marker::Model;
 use step_count::Bytes;
 
-/// The buffers that a page made and both bindings, seen as the plain record `Stored`.
+/// The buffers that a page made and what is bound, seen as the plain record `Stored`.
 #[derive(Drop)]
 pub struct Buffers {
     buffers: ByHandle,
-    array: Option<Handle>,
-    element_array: Option<Handle>,
+    bound: BufferBindings,
     alloc: Global,
 }
 
@@ -34,9 +34,9 @@ impl Model for Buffers {
 
     ghost coded = { stored_code };
 
-    ghost view = { λ a. record { buffers = a.buffers; array = a.array; element_array = a.element_array } };
+    ghost view = { λ a. record { buffers = a.buffers; bound = a.bound } };
 
-    ghost invariant = { λ a. AreBoundFirst (record { buffers = a.buffers; array = a.array; element_array = a.element_array }) };
+    ghost invariant = { λ a. AreBoundFirst a.buffers a.bound };
 }
 
 impl Buffers {
@@ -46,17 +46,16 @@ impl Buffers {
     {
         Buffers {
             buffers: ByHandle::new(alloc),
-            array: None,
-            element_array: None,
+            bound: BufferBindings::new(),
             alloc,
         }
     }
 
-    /// Adds the new buffer `h`, which isn't there yet: no bytes, usage STATIC_DRAW, bound to nothing. Err where
-    /// memory runs out, and then nothing changes.
+    /// Adds the new buffer `h`, which isn't there yet: no bytes, usage STATIC_DRAW, bound to nothing. Err only
+    /// where memory runs out, and then nothing changes.
     pub fn add(&mut self, h: Handle) -> Result<(), Memory>
         requires { IsNone (get self.old.buffers h) }
-        ensures ok { OnOk result (self.new ≡ record self.old { buffers = insert self.old.buffers h new_buffer }) }
+        ensures ok { OnOk result (self.new ≡ record self.old { buffers = insert self.old.buffers h new_stored }) }
         ensures err { OnErr result (self.new ≡ self.old) }
     {
         self.buffers.add(h, Held::new())
@@ -66,8 +65,8 @@ impl Buffers {
     /// buffer was bound to the other target before (WebGL 1.0 section 6.1), and then nothing changes.
     pub fn bind(&mut self, target: BufferTarget, h: Option<Handle>) -> Result<(), GlError>
         requires { ForSome h (λ q. IsSome (get self.old.buffers q)) }
-        ensures answer { Answers (bind_refusal self.old target h) result }
-        ensures ok { OnOk result (self.new ≡ bound_to self.old target h) }
+        ensures judged { Judged (bind_rules self.old target h) result }
+        ensures ok { OnOk result (self.new ≡ bound_to_target self.old target h) }
         ensures err { OnErr result (self.new ≡ self.old) }
     {
         if let Some(h) = h {
@@ -75,16 +74,13 @@ impl Buffers {
                 return Err(GlError::Operation);
             };
         }
-        match target {
-            BufferTarget::Array => self.array = h,
-            BufferTarget::ElementArray => self.element_array = h,
-        }
+        self.bound.set(target, h);
         Ok(())
     }
 
     /// Gives the bound buffer this content, of at most 67,108,864 bytes where they are given, and this usage
     /// (bufferData, OpenGL ES 2.0 section 2.9). Value where the size is above 67,108,864, Operation where
-    /// nothing is bound, Memory where it is wanting for an element buffer; then nothing changes.
+    /// nothing is bound, Memory only where memory runs out for the bytes of an element buffer; then nothing changes.
     pub fn data(
         &mut self,
         target: BufferTarget,
@@ -92,7 +88,7 @@ impl Buffers {
         usage: Usage,
     ) -> Result<(), GlError>
         requires { HasShortBytes content }
-        ensures answer { AnswersOrRunsOut target (data_refusal self.old target content.entry) result }
+        ensures judged { JudgedOrRunsOut target (data_rules self.old target content.entry) result }
         ensures ok { OnOk result (self.new ≡ filled self.old target content.entry usage) }
         ensures err { OnErr result (self.new ≡ self.old) }
     {
@@ -118,7 +114,7 @@ impl Buffers {
         offset: i64,
         bytes: &[u8],
     ) -> Result<(), GlError>
-        ensures answer { Answers (sub_data_refusal self.old target offset bytes.now) result }
+        ensures judged { Judged (sub_data_rules self.old target offset bytes.now) result }
         ensures ok { OnOk result (self.new ≡ patched self.old target offset bytes.now) }
         ensures err { OnErr result (self.new ≡ self.old) }
     {
@@ -140,13 +136,10 @@ impl Buffers {
 
     /// The buffer that is bound to the target, which is there and was first bound to it.
     pub fn bound(&self, target: BufferTarget) -> Option<Handle>
-        ensures value { result ≡ binding self.now target }
+        ensures value { result ≡ binding self.now.bound target }
         ensures first { IsBoundFirst self.now.buffers target result }
     {
-        match target {
-            BufferTarget::Array => self.array,
-            BufferTarget::ElementArray => self.element_array,
-        }
+        self.bound.get(target)
     }
 
     /// The size in bytes of a buffer that is there, at most 67,108,864.
@@ -155,10 +148,7 @@ impl Buffers {
         ensures value { IfSome (get self.now.buffers h) (λ b. result ≡ b.size) }
         ensures sound { IfSome (get self.now.buffers h) IsSound }
     {
-        match self.buffers.get(h) {
-            Some(held) => held.size(),
-            None => unreachable!(),
-        }
+        self.buffers.at(h).size()
     }
 
     /// The GL word of the usage of a buffer that is there.
@@ -166,10 +156,7 @@ impl Buffers {
         requires { IsSome (get self.now.buffers h) }
         ensures { IfSome (get self.now.buffers h) (λ b. result ≡ usage_word b.usage) }
     {
-        match self.buffers.get(h) {
-            Some(held) => held.usage(),
-            None => unreachable!(),
-        }
+        self.buffers.at(h).usage()
     }
 
     /// The bytes of a buffer that is there and was first bound to ELEMENT_ARRAY_BUFFER.
@@ -178,28 +165,15 @@ impl Buffers {
         ensures value { IfSome (get self.now.buffers h) (λ b. lent result ≡ b.bytes) }
         ensures sound { IfSome (get self.now.buffers h) IsSound }
     {
-        match self.buffers.get(h) {
-            Some(held) => held.indices(),
-            None => unreachable!(),
-        }
+        self.buffers.at(h).indices()
     }
 
-    /// Forgets the buffer `h` and resets its bindings (deleteBuffer, OpenGL ES 2.0 section 2.9). Nothing where it
-    /// isn't there.
+    /// Forgets the buffer `h` and resets its bindings (deleteBuffer, OpenGL ES 2.0 section 2.9). Nothing changes where
+    /// it isn't there.
     pub fn gone(&mut self, h: Handle)
         ensures { self.new ≡ without_buffer self.old h }
     {
         self.buffers.remove(h);
-        reset(&mut self.array, h);
-        reset(&mut self.element_array, h);
-    }
-}
-
-/// Makes a binding none where it is of `h`.
-fn reset(bound: &mut Option<Handle>, h: Handle)
-    ensures { bound.new ≡ without h bound.old }
-{
-    if *bound == Some(h) {
-        *bound = None;
+        self.bound.unbind(h);
     }
 }

@@ -1,9 +1,10 @@
-ghost use Rattle.std.specs.Prelude.{◌≡◌, ◌+◌, ◌<◌, Some, None, IsNone, IsSome, IfSome, IsSomeAnd, OnOk, OnErr, length, vec_len};
-ghost use Rattle.std.specs.Option.{option_copied};
+ghost use Rattle.std.specs.Prelude.{◌≡◌, ◌+◌, ◌<◌, Some, None, [], ◌∷◌, IsNone, IsSome, IsSomeAnd, OnOk, OnErr, length, vec_len};
+ghost use Rattle.std.specs.Option.{option_copied, option_map};
 ghost use Rattle.std.specs.FinMap.{empty, get, insert, remove};
-ghost use Rattle.buffer_store.specs.Buffer.{IsIndexed, with_bytes, with_first};
+ghost use Rattle.gl_numbers.specs.BufferRules.{other_target};
+ghost use Rattle.buffer_store.specs.StoredBuffer.{IsIndexed, view_of, with_bytes, with_first};
 ghost use Rattle.buffer_store.specs.Stored.{IsOf, KeepsFirst, changed_at};
-ghost use Rattle.buffer_store.specs.Rules.{Answers, refused_of};
+ghost use Rattle.buffer_store.specs.Rules.{Judged};
 ghost use Rattle.buffer_store.specs.Slots.{shelf_of};
 
 use crate::held::Held;
@@ -53,7 +54,18 @@ impl ByHandle {
         }
     }
 
-    /// Adds a buffer under a handle that has none.
+    /// The buffer of a handle that has one.
+    pub(crate) fn at(&self, h: Handle) -> &Held
+        requires { IsSome (get self.now h) }
+        ensures { get self.now h ≡ Some result.now }
+    {
+        match self.get(h) {
+            Some(held) => held,
+            None => unreachable!(),
+        }
+    }
+
+    /// Adds a buffer under a handle that has none. Err only where memory runs out, and then nothing changes.
     pub(crate) fn add(&mut self, h: Handle, held: Held) -> Result<(), Memory>
         requires { IsNone (get self.old h) }
         ensures ok { OnOk result (self.new ≡ insert self.old h held) }
@@ -74,14 +86,6 @@ impl ByHandle {
         ensures value { self.new ≡ insert self.old h held }
         ensures firsts { KeepsFirst self.old self.new }
     {
-        self.put(h, held);
-    }
-
-    /// Puts another buffer in the place of the one of this handle.
-    fn put(&mut self, h: Handle, held: Held)
-        requires { IsSome (get self.old h) }
-        ensures { self.new ≡ insert self.old h held }
-    {
         if let Some(slot) = self.held.get_mut(h as usize) {
             *slot = Some(held);
         }
@@ -96,32 +100,19 @@ impl ByHandle {
         h: Handle,
     ) -> Result<(), GlError>
         requires { IsSome (get self.old h) }
-        ensures answer { Answers (refused_of target (get self.old h)) result }
+        ensures judged { Judged (other_target (Some target) (option_map view_of (get self.old h)) ∷ []) result }
         ensures ok { OnOk result (self.new ≡ changed_at self.old h (with_first target) (get self.old h)) }
         ensures err { OnErr result (self.new ≡ self.old) }
         ensures firsts { KeepsFirst self.old self.new }
         ensures claimed { OnOk result (IsOf target (get self.new h)) }
     {
-        let first = self.first_target(h);
-        match (first, target) {
-            (None, _) => {
+        match self.at(h).first_target() {
+            None => {
                 self.take_target(alloc, h, target);
                 Ok(())
             }
-            (Some(BufferTarget::Array), BufferTarget::Array)
-            | (Some(BufferTarget::ElementArray), BufferTarget::ElementArray) => Ok(()),
-            _ => Err(GlError::Operation),
-        }
-    }
-
-    /// The target that the buffer of this handle was first bound to.
-    fn first_target(&self, h: Handle) -> Option<BufferTarget>
-        requires { IsSome (get self.now h) }
-        ensures { IfSome (get self.now h) (λ b. result ≡ b.first_target) }
-    {
-        match self.get(h) {
-            Some(held) => held.first_target(),
-            None => unreachable!(),
+            Some(first) if first == target => Ok(()),
+            Some(_) => Err(GlError::Operation),
         }
     }
 
@@ -172,7 +163,7 @@ fn reach(slots: &mut Vec<Option<Held>>, h: Handle) -> Result<(), Memory>
     ensures reached { OnOk result (h < vec_len slots.new) }
 {
     let len = h as usize + 1;
-    // All the memory at once, so that no slot is added in vain where it is wanting.
+    // All the memory at once, so that no slot is added in vain where memory runs out.
     let Ok(()) = slots.reserve(len.saturating_sub(slots.len())) else {
         return Err(Memory);
     };

@@ -1,4 +1,5 @@
 ghost use Rattle.std.specs.Prelude.{◌≡◌, ◌≤◌, IfOk, nat_lt};
+ghost use Rattle.gl_numbers.specs.Limits.{buffer_bytes_max};
 ghost use Rattle.buffer_store.specs.Content.{HasShortBytes, bytes_of, size_of};
 
 use gl_numbers::{BUFFER_BYTES_MAX, Memory};
@@ -17,7 +18,7 @@ impl Content<'_> {
     /// Whether there are more bytes than a buffer holds.
     pub(crate) fn is_long(self) -> bool
         requires { HasShortBytes self }
-        ensures { result ≡ nat_lt BUFFER_BYTES_MAX (size_of self.entry) }
+        ensures { result ≡ nat_lt buffer_bytes_max (size_of self.entry) }
     {
         match self {
             Content::Size(size) => size > BUFFER_BYTES_MAX,
@@ -27,7 +28,7 @@ impl Content<'_> {
 
     /// How many bytes there are, at most 67,108,864.
     pub(crate) fn size(self) -> u32
-        requires { size_of self ≤ BUFFER_BYTES_MAX }
+        requires { size_of self ≤ buffer_bytes_max }
         ensures { result ≡ size_of self.entry }
     {
         match self {
@@ -36,7 +37,7 @@ impl Content<'_> {
         }
     }
 
-    /// The bytes in memory of their own.
+    /// The bytes in memory of their own. Err only where memory runs out.
     pub(crate) fn copied(self, alloc: Global) -> Result<Vec<u8>, Memory>
         ensures { IfOk result (λ copy. copy.items ≡ bytes_of self.entry) }
     {

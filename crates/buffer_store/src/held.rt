@@ -1,12 +1,13 @@
 ghost use Rattle.std.specs.Prelude.{◌≡◌, ◌+◌, ◌≤◌, length, IfOk, OnErr};
-ghost use Rattle.buffer_store.specs.Buffer.{IsIndexed, IsSound, new_buffer, put_bytes, with_bytes, with_first};
 ghost use Rattle.gl_numbers.specs.BufferWords.{usage_word};
+ghost use Rattle.gl_numbers.specs.Limits.{buffer_bytes_max};
+ghost use Rattle.buffer_store.specs.StoredBuffer.{IsIndexed, IsSound, new_stored, put_bytes, with_bytes, with_first};
 ghost use Rattle.buffer_store.specs.Content.{size_of, buffer_of};
 ghost use Rattle.step_count.specs.Content.{content};
 ghost use Rattle.gl_numbers.specs.declared.buffer_words.BufferTarget.TheVariants.{ElementArray};
 
 use crate::Content;
-use gl_numbers::{BUFFER_BYTES_MAX, BufferTarget, Memory, Usage};
+use gl_numbers::{BufferTarget, Memory, Usage};
 use std::alloc::Global;
 use std::marker::Model;
 use step_count::Bytes;
@@ -30,9 +31,9 @@ pub(crate) struct Held {
 }
 
 impl Model for Held {
-    ghost use Rattle.buffer_store.specs.Buffer.{Buffer, IsSound};
+    ghost use Rattle.buffer_store.specs.StoredBuffer.{StoredBuffer, IsSound};
 
-    ghost Value = { Buffer };
+    ghost Value = { StoredBuffer };
 
     ghost use Rattle.buffer_store.specs.Held.{shown};
 
@@ -44,7 +45,7 @@ impl Model for Held {
 impl Held {
     /// A buffer that was just made.
     pub(crate) fn new() -> Held
-        ensures { result ≡ new_buffer }
+        ensures { result ≡ new_stored }
     {
         Held {
             kept: Kept::Unbound,
@@ -60,9 +61,9 @@ impl Held {
         content: Content<'_>,
         usage: Usage,
     ) -> Result<Held, Memory>
-        requires { size_of content ≤ BUFFER_BYTES_MAX }
+        requires { size_of content ≤ buffer_bytes_max }
         ensures ok { IfOk result (λ b. b ≡ buffer_of target content.entry usage) }
-        ensures want { OnErr result (target ≡ ElementArray) }
+        ensures memory { OnErr result (target ≡ ElementArray) }
     {
         let kept = match target {
             BufferTarget::Array => Kept::Vertices(content.size()),

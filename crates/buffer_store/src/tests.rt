@@ -39,8 +39,8 @@ fn nothing_is_bound_at_first(rt: HostRuntime) {
         (67_108_865, GlError::Value),
         (0xFFFF_FFFF, GlError::Value),
     ] {
-        let answer = buffers.data(ARRAY, Content::Size(size), Usage::StaticDraw);
-        assert_eq!(rt; answer, Err(code), "at {size}");
+        let returned = buffers.data(ARRAY, Content::Size(size), Usage::StaticDraw);
+        assert_eq!(rt; returned, Err(code), "at {size}");
     }
     for (offset, code) in [
         (-1, GlError::Value),
@@ -75,14 +75,14 @@ fn a_vertex_buffer_keeps_its_size(rt: HostRuntime) -> Result<(), Fail> {
     let mut buffers = with_one(&rt, rt.alloc(), ARRAY, 1)?;
     let content = Content::Size(67_108_864);
     assert_eq!(rt; buffers.data(ARRAY, content, Usage::StaticDraw), Ok(()));
-    for (offset, answer) in [
+    for (offset, expected) in [
         (67_108_863, Ok(())),
         (67_108_864, Err(GlError::Value)),
         (i64::MAX, Err(GlError::Value)),
     ] {
         assert_eq!(rt;
             buffers.sub_data(ARRAY, offset, &[7]),
-            answer,
+            expected,
             "at {offset}"
         );
     }
@@ -98,21 +98,34 @@ fn a_vertex_buffer_keeps_its_size(rt: HostRuntime) -> Result<(), Fail> {
 enum Act<'a> {
     Fill(&'a [u8]),
     Zeros(u32),
-    Patch(i64, &'a [u8], Result<(), GlError>),
+    Patch {
+        offset: i64,
+        bytes: &'a [u8],
+        expected: Result<(), GlError>,
+    },
     Holds(&'a [u8]),
 }
 
+/// A bufferSubData, and what it returns.
+fn patch(offset: i64, bytes: &[u8], expected: Result<(), GlError>) -> Act<'_> {
+    Act::Patch {
+        offset,
+        bytes,
+        expected,
+    }
+}
+
 /// The bytes of the bound element buffer, of at most one block, are these.
-fn holds<L: Ledger>(rt: &impl Abort, buffers: &Buffers, steps: &mut Steps<L>, want: &[u8]) {
+fn holds<L: Ledger>(rt: &impl Abort, buffers: &Buffers, steps: &mut Steps<L>, expected: &[u8]) {
     let Some(h) = buffers.bound(ELEMENT) else {
         assert!(rt; false, "an element buffer is bound");
         return;
     };
     let bytes = buffers.element_bytes(h);
-    assert_eq!(rt; bytes.len(), want.len());
-    assert_eq!(rt; buffers.size(h) as usize, want.len());
+    assert_eq!(rt; bytes.len(), expected.len());
+    assert_eq!(rt; buffers.size(h) as usize, expected.len());
     if !bytes.is_empty() {
-        assert_eq!(rt; bytes.block(0, steps), want);
+        assert_eq!(rt; bytes.block(0, steps), expected);
     }
 }
 
@@ -127,21 +140,25 @@ fn do_all<L: Ledger>(rt: &impl Abort, buffers: &mut Buffers, blank: Blank, acts:
         match *act {
             Act::Fill(bytes) => {
                 assert!(rt; bytes.len() < 100);
-                let answer = buffers.data(ELEMENT, Content::Bytes(bytes), Usage::StreamDraw);
-                assert_eq!(rt; answer, Ok(()));
+                let returned = buffers.data(ELEMENT, Content::Bytes(bytes), Usage::StreamDraw);
+                assert_eq!(rt; returned, Ok(()));
             }
             Act::Zeros(size) => {
-                let answer = buffers.data(ELEMENT, Content::Size(size), Usage::DynamicDraw);
-                assert_eq!(rt; answer, Ok(()));
+                let returned = buffers.data(ELEMENT, Content::Size(size), Usage::DynamicDraw);
+                assert_eq!(rt; returned, Ok(()));
             }
-            Act::Patch(offset, bytes, want) => {
+            Act::Patch {
+                offset,
+                bytes,
+                expected,
+            } => {
                 assert_eq!(rt;
                     buffers.sub_data(ELEMENT, offset, bytes),
-                    want,
+                    expected,
                     "at {offset}"
                 );
             }
-            Act::Holds(want) => holds(rt, buffers, &mut steps, want),
+            Act::Holds(expected) => holds(rt, buffers, &mut steps, expected),
         }
     }
 }
@@ -152,13 +169,13 @@ fn an_element_buffer_keeps_its_bytes(rt: HostRuntime) -> Result<(), Fail> {
     let acts = [
         Act::Holds(&[]),
         Act::Fill(&[1, 2, 3, 4]),
-        Act::Patch(3, &[8, 9], Err(GlError::Value)),
-        Act::Patch(5, &[], Err(GlError::Value)),
-        Act::Patch(-1, &[], Err(GlError::Value)),
-        Act::Patch(i64::MAX, &[8], Err(GlError::Value)),
+        patch(3, &[8, 9], Err(GlError::Value)),
+        patch(5, &[], Err(GlError::Value)),
+        patch(-1, &[], Err(GlError::Value)),
+        patch(i64::MAX, &[8], Err(GlError::Value)),
         Act::Holds(&[1, 2, 3, 4]),
-        Act::Patch(2, &[8, 9], Ok(())),
-        Act::Patch(4, &[], Ok(())),
+        patch(2, &[8, 9], Ok(())),
+        patch(4, &[], Ok(())),
         Act::Holds(&[1, 2, 8, 9]),
         Act::Zeros(3),
         Act::Holds(&[0, 0, 0]),
@@ -174,7 +191,7 @@ fn a_buffer_that_is_gone_is_bound_nowhere(rt: HostRuntime) -> Result<(), Fail> {
     assert_eq!(rt; buffers.bound(ELEMENT), Some(1), "another was gone");
     buffers.gone(1);
     assert_eq!(rt; buffers.bound(ELEMENT), None);
-    let answer = buffers.data(ELEMENT, Content::Size(1), Usage::StaticDraw);
-    assert_eq!(rt; answer, Err(GlError::Operation));
+    let returned = buffers.data(ELEMENT, Content::Size(1), Usage::StaticDraw);
+    assert_eq!(rt; returned, Err(GlError::Operation));
     Ok(())
 }

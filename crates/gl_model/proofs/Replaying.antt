@@ -1,9 +1,11 @@
 -- The replay of commands, one after another.
-use Rattle.std.proofs.Common.{◌≡◌, ℕ, zero, suc, ◌+◌, Option, Some, None, List, [], ◌∷◌, ◌++◌, length, take, refl, sym, ap, ◌∙◌, arith, append_assoc}
+use Rattle.std.proofs.Common.{◌≡◌, ℕ, zero, suc, ◌+◌, Bool, false, Option, Some, None, List, [], ◌∷◌, ◌++◌, length, take, refl, sym, ap, ◌∙◌, arith, append_assoc, append-nil}
 use Rattle.std.specs.Option.{option_map_or, option_to_list}
+use Rattle.std.specs.Prelude.{if◌then◌else◌}
+use Rattle.gl_numbers.specs.declared.errors.GlError.{GlError}
 use Rattle.command_stream.specs.declared.command.Command.{Command}
 use Rattle.gl_model.specs.DriverState.{DriverState}
-use Rattle.gl_model.specs.DriverStep.{Fault, refusal, effect, shot}
+use Rattle.gl_model.specs.DriverStep.{Fault, gl_error, outside_fetch, refusal, outside, effect, shot}
 use Rattle.gl_model.specs.Replay.{Replayed, replay, clean, ended, after, fault_of}
 use Rattle.gl_model.specs.Shot.{Shot}
 
@@ -12,20 +14,34 @@ pub replay-none : (g : DriverState) → replay g [] ≡ ended g None
 unfolding replay
 replay-none g = refl
 
+-- what is neither refused nor fetches outside has no fault
+fault-judged : (refused : Option GlError) (fetches : Bool) → refused ≡ None → fetches ≡ false
+    → option_map_or (λ error. Some (gl_error error)) refused (if fetches then Some outside_fetch else None) ≡ None
+fault-judged refused fetches e f = rw (e, f) refl
+
+-- a command that isn't refused and fetches nothing that isn't there has no fault
+pub fault-none : (g : DriverState) (command : Command) → refusal g command ≡ None → outside g command ≡ false → fault_of g command ≡ None
+fault-none g command e inside = fault-judged (refusal g command) (outside g command) e inside
+
 -- one command without a fault, and then the others
-pub replay-step : (g : DriverState) (command : Command) (commands : List Command) → refusal g command ≡ None
+pub replay-step : (g : DriverState) (command : Command) (commands : List Command) → fault_of g command ≡ None
     → replay g (command ∷ commands) ≡ after (shot g command) (replay (effect g command) commands)
 unfolding replay
 replay-step g command commands e = rw e refl
 
 -- one command without a fault
-pub replay-one : (g : DriverState) (command : Command) → refusal g command ≡ None → replay g (command ∷ []) ≡ clean (effect g command) [] (command ∷ [])
-replay-one g command e = replay-step g command [] e ∙ ap (after None) (replay-none (effect g command))
+pub replay-one : (g : DriverState) (command : Command) → fault_of g command ≡ None
+    → replay g (command ∷ []) ≡ clean (effect g command) (option_to_list (shot g command)) (command ∷ [])
+replay-one g command e =
+    let shots : option_to_list (shot g command) ++ [] ≡ option_to_list (shot g command) = append-nil (option_to_list (shot g command)) in
+    replay-step g command [] e ∙ ap (after (shot g command)) (replay-none (effect g command))
+    ∙ (λ i. record { state = effect g command; shots = shots i; count = 1; fault = None })
 
 -- two commands without a fault
-pub replay-two : (g : DriverState) (first second : Command) → refusal g first ≡ None → refusal (effect g first) second ≡ None
-    → replay g (first ∷ second ∷ []) ≡ clean (effect (effect g first) second) [] (first ∷ second ∷ [])
-replay-two g first second e f = replay-step g first (second ∷ []) e ∙ ap (after None) (replay-one (effect g first) second f)
+pub replay-two : (g : DriverState) (first second : Command) → fault_of g first ≡ None → fault_of (effect g first) second ≡ None
+    → replay g (first ∷ second ∷ [])
+    ≡ clean (effect (effect g first) second) (option_to_list (shot g first) ++ option_to_list (shot (effect g first) second)) (first ∷ second ∷ [])
+replay-two g first second e f = replay-step g first (second ∷ []) e ∙ ap (after (shot g first)) (replay-one (effect g first) second f)
 
 -- what a replay gives after commands that had no fault
 abbrev pub resumed : List Shot → List Command → Replayed → Replayed

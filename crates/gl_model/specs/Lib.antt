@@ -1,8 +1,11 @@
 pub mod Errors
-pub mod Refusals
 pub mod Buffers
+pub mod BufferState
+pub mod BufferRefusals
 pub mod PageState
 pub mod Shot
 pub mod DriverState
+pub mod ObjectCommands
+pub mod BufferCommands
 pub mod DriverStep
 pub mod Replay

@@ -24,10 +24,11 @@ binding bindings ElementArray = bindings.element_array
 abbrev pub bound_to : Bindings → ℕ → Option ℕ
 bound_to bindings word = option_and_then (binding bindings) (buffer_target_of word)
 
--- a buffer, or none, is bound to a target
-abbrev pub bind : BufferTarget → Option ℕ → Bindings → Bindings
-bind Array buffer bindings = record bindings { array = buffer }
-bind ElementArray buffer bindings = record bindings { element_array = buffer }
+-- a buffer, or none, is bound to a target, if there is one
+abbrev pub bind : Option BufferTarget → Option ℕ → Bindings → Bindings
+bind None buffer bindings = bindings
+bind (Some Array) buffer bindings = record bindings { array = buffer }
+bind (Some ElementArray) buffer bindings = record bindings { element_array = buffer }
 
 -- what a binding is without one buffer
 abbrev pub without : ℕ → Option ℕ → Option ℕ

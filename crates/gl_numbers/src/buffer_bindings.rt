@@ -1,4 +1,4 @@
-ghost use Rattle.std.specs.Prelude.{◌≡◌};
+ghost use Rattle.std.specs.Prelude.{◌≡◌, Some};
 ghost use Rattle.gl_numbers.specs.BufferBindings.{no_bindings, binding, bind, unbind, without};
 
 use crate::buffer_words::BufferTarget;
@@ -45,7 +45,7 @@ impl BufferBindings {
 
     /// Binds a buffer, or none, to a target.
     pub fn set(&mut self, target: BufferTarget, buffer: Option<u32>)
-        ensures { self.new ≡ bind target buffer self.old }
+        ensures { self.new ≡ bind (Some target) buffer self.old }
     {
         match target {
             BufferTarget::Array => self.array = buffer,

@@ -1,6 +1,7 @@
 -- The objects that were given a handle, their marks and their holds (WebGL 1.0 sections 5.14.5 to 5.14.9, OpenGL
 -- ES 2.0 sections 2.10.1 and 2.10.3 and appendix C).
-use Rattle.std.specs.Prelude.{◌≡◌, ◌≢◌, ℕ, ◌+◌, ◌-◌, ◌<◌, ◌==◌, if◌then◌else◌, Bool, true, false, ◌⊎◌, Option, Some, None, List, [], length, IfSome, IsSomeAnd, slice_get, slice_set}
+use Rattle.std.specs.Prelude.{◌≡◌, ◌≢◌, ℕ, ◌+◌, ◌-◌, ◌<◌, Bool, true, false, ◌⊎◌, Option, None, List, [], length, IfSome, IsSomeAnd}
+use Rattle.gl_numbers.specs.ByHandle.{object_at}
 use Rattle.gl_numbers.specs.declared.kinds.Kind.{Kind}
 use Rattle.gl_numbers.specs.declared.kinds.Kind.TheVariants.{Buffer, Texture, Renderbuffer, Framebuffer, Shader, Program}
 use Rattle.object_names.specs.declared.entry.Find.{Find}
@@ -24,10 +25,6 @@ no_names = record { objects = []; room = None }
 -- an object that was just made
 abbrev pub new_object : Kind → Object
 new_object kind = record { kind = kind; marked = false; holds = 0 }
-
--- the object of a handle, if it was given
-abbrev pub object_at : List Object → ℕ → Option Object
-object_at objects h = if h == 0 then None else slice_get objects (h - 1)
 
 -- the handle that comes next
 abbrev pub next_handle : Given → ℕ
@@ -68,20 +65,14 @@ pub record IsHoldable (o : Object) : Type 0 where
   pub there : (o.marked ≡ false) ⊎ (0 < o.holds)
   pub few : o.holds < 4294967295
 
--- the same object, deleted, or held once more or once less
+-- the same object, deleted (OpenGL ES 2.0 appendix C)
 abbrev pub marked : Object → Object
 marked o = record o { marked = true }
 
+-- the same object, held once more
 abbrev pub held_once_more : Object → Object
 held_once_more o = record o { holds = o.holds + 1 }
 
+-- the same object, held once less
 abbrev pub held_once_less : Object → Object
 held_once_less o = record o { holds = o.holds - 1 }
-
--- the objects with that of a handle changed, if it was given
-abbrev pub changed_at : List Object → ℕ → (Object → Object) → Option Object → List Object
-changed_at objects h f None = objects
-changed_at objects h f (Some o) = slice_set objects (h - 1) (f o)
-
-abbrev pub changed : List Object → ℕ → (Object → Object) → List Object
-changed objects h f = changed_at objects h f (object_at objects h)

@@ -65,7 +65,7 @@ impl Entry {
         }
     }
 
-    /// Marks it as deleted, and answers whether nothing holds it.
+    /// Marks it as deleted, and returns whether nothing holds it.
     pub(crate) fn mark(&mut self) -> bool
         ensures value { IsTrue result ↔ (self.old.holds ≡ 0) }
         ensures after { self.new ≡ marked self.old }
@@ -82,7 +82,7 @@ impl Entry {
         self.holds += 1;
     }
 
-    /// Holds it once less, and answers whether it is gone by that.
+    /// Holds it once less, and returns whether it is gone by that.
     pub(crate) fn release(&mut self) -> bool
         requires { 0 < self.old.holds }
         ensures value { IsTrue result ↔ ((self.old.marked ≡ true) × (self.old.holds ≡ 1)) }

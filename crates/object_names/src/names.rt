@@ -1,6 +1,8 @@
 ghost use Rattle.std.specs.Prelude.{◌≡◌, ◌<◌, ◌≤◌, ◌↔◌, ◌-◌, ◌++◌, ◌∷◌, [], Some, None, true, false, length, IsTrue, IsSome, IfSome, IsSomeAnd, IfOk, OnOk, OnErr};
 ghost use Rattle.std.specs.Option.{option_copied};
-ghost use Rattle.object_names.specs.Objects.{Finds, IsHoldable, changed, driver_name, held_once_less, held_once_more, marked, new_object, next_handle, no_names, object_at};
+ghost use Rattle.gl_numbers.specs.ByHandle.{changed, object_at};
+ghost use Rattle.gl_numbers.specs.Limits.{handles_max};
+ghost use Rattle.object_names.specs.Objects.{Finds, IsHoldable, driver_name, held_once_less, held_once_more, marked, new_object, next_handle, no_names};
 
 use crate::entry::{Entry, Find};
 use gl_numbers::{HANDLES_MAX, Handle, Kind};
@@ -10,7 +12,7 @@ use std::marker::Model;
 /// Why no object can be made.
 #[derive(Clone, Copy, Debug, PartialEq, Eq)]
 pub enum Create {
-    /// Memory is wanting.
+    /// Out of memory.
     Memory,
     /// All 1,048,576 handles were given.
     Spent,
@@ -48,12 +50,13 @@ impl Names {
         }
     }
 
-    /// Makes room for one more object of the kind, and answers the handle, 1 to 1,048,576, and the driver name
-    /// that the next `create` gives it. Spent exactly where all handles were given; nothing changes at an error.
+    /// Makes room for one more object of the kind, and returns the handle, 1 to 1,048,576, and the driver name
+    /// that the next `create` gives it. `Spent` exactly where all handles were given, `Memory` only before that; nothing
+    /// changes at an error.
     pub fn room(&mut self, kind: Kind) -> Result<(Handle, u32), Create>
         ensures value { IfOk result (λ r. r ≡ (next_handle self.old, driver_name kind (next_handle self.old))) }
         ensures ok { OnOk result (self.new ≡ record self.old { room = Some kind }) }
-        ensures spent { (result ≡ Err Create.Spent) ↔ (length self.old.objects ≡ HANDLES_MAX) }
+        ensures spent { (result ≡ Err Create.Spent) ↔ (length self.old.objects ≡ handles_max) }
         ensures err { OnErr result (self.new ≡ self.old) }
     {
         let given = self.entries.as_slice().len();
@@ -73,7 +76,7 @@ impl Names {
     pub fn create(&mut self, kind: Kind) -> Handle
         requires { self.old.room ≡ Some kind }
         ensures value { result ≡ next_handle self.old }
-        ensures within { result ≤ HANDLES_MAX }
+        ensures within { result ≤ handles_max }
         ensures after { self.new ≡ record { objects = self.old.objects ++ new_object kind ∷ []; room = None } }
     {
         let Ok(()) = self.entries.push(Entry::new(kind)) else {
@@ -96,7 +99,7 @@ impl Names {
         }
     }
 
-    /// Marks a live object as deleted (OpenGL ES 2.0 appendix C). True exactly where nothing holds it, and then it
+    /// Marks a live object as deleted (OpenGL ES 2.0 appendix C). True exactly where nothing holds it: then it
     /// is gone and its driver name is free.
     pub fn delete(&mut self, h: Handle) -> bool
         requires { IsSomeAnd (object_at self.old.objects h) (λ o. o.marked ≡ false) }
@@ -171,7 +174,7 @@ fn place(entries: &[Entry], h: Handle) -> usize
 
 /// The name that the driver knows an object by; none is made yet for a shader or a program.
 fn driver_name_of(kind: Kind, h: Handle) -> u32
-    requires { h ≤ HANDLES_MAX }
+    requires { h ≤ handles_max }
     ensures { result ≡ driver_name kind h }
 {
     match kind {

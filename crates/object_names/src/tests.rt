@@ -3,7 +3,7 @@ use gl_numbers::{HANDLES_MAX, Handle, Kind};
 use std::process::Abort;
 use std::test::Fail;
 
-/// Makes one object of the kind, and answers its handle and driver name.
+/// Makes one object of the kind, and returns its handle and driver name.
 fn make(names: &mut Names, kind: Kind) -> Result<(Handle, u32), Create> {
     let (_, driver) = names.room(kind)?;
     Ok((names.create(kind), driver))
@@ -43,7 +43,7 @@ fn names_buffer(rt: &impl Abort, names: &Names, h: Handle, want: Find) {
 }
 
 #[test]
-#[tactic(auto, using(crate::proofs::Changes::of_objects))]
+#[tactic(auto, using(gl_numbers::proofs::ByHandle::of_objects))]
 fn a_held_object_is_gone_once_it_is_let_go(rt: HostRuntime) -> Result<(), Fail> {
     let mut names = Names::new(rt.alloc());
     let Ok(_) = names.room(Kind::Buffer) else {
@@ -63,7 +63,7 @@ fn a_held_object_is_gone_once_it_is_let_go(rt: HostRuntime) -> Result<(), Fail> 
 }
 
 #[test]
-#[tactic(auto, using(crate::proofs::Changes::of_objects))]
+#[tactic(auto, using(gl_numbers::proofs::ByHandle::of_objects))]
 fn an_object_that_nothing_holds_is_gone_at_once(rt: HostRuntime) -> Result<(), Fail> {
     let mut names = Names::new(rt.alloc());
     let Ok(_) = names.room(Kind::Buffer) else {

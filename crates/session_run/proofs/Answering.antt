@@ -4,14 +4,15 @@ use Rattle.std.proofs.Math.Seq.{take-length}
 use Rattle.std.specs.Io.KnownBytes.{append_known}
 use Rattle.wire_io.specs.declared.status.Failed.{Failed}
 use Rattle.wire_io.specs.Sinks.{Sends}
+use Rattle.gl_context.specs.declared.context.WriteFault.{WriteFault}
 use Rattle.call_records.specs.declared.calls.Call.{Call}
 use Rattle.call_records.specs.declared.replies.Reply.{Reply}
 use Rattle.call_records.specs.Replies.{reply_encoding}
 use Rattle.gl_model.specs.PageState.{PageState}
 use Rattle.gl_model.specs.DriverState.{DriverState}
-use Rattle.session_run.specs.PageStep.{is_out_of_memory}
-use Rattle.session_run.specs.Stands.{Kept}
-use Rattle.session_run.specs.Applied.{Steps, Stops, bytes_of}
+use Rattle.gl_context.specs.PageStep.{is_out_of_memory}
+use Rattle.gl_context.specs.Stands.{Kept}
+use Rattle.gl_context.specs.Steps.{Steps, Stops, bytes_of}
 use Rattle.session_run.specs.Ends.{sinks}
 use Rattle.session_run.specs.Loop.{OneDriven, AnswersOne, OneCut}
 
@@ -21,7 +22,7 @@ abbrev driven : (w : PageState) (g : DriverState) (call : Call) (kept : Kept) (o
 driven w g call kept old new reply s = record {
   commands = s.commands;
   driver = s.driver;
-  drives = record { fits = s.fits; replayed = s.replayed };
+  drives = record { fits = s.fit; replayed = s.replayed };
   exact = s.exact;
 }
 
@@ -31,24 +32,24 @@ pub answered_one : (w : PageState) (g : DriverState) (call : Call) (kept : Kept)
     → AnswersOne w g call kept (sinks out0 stream0) (sinks out stream) result
 answered_one w g call kept out0 out stream0 stream reply (Ok u) s sends = record {
   out_of_memory = is_out_of_memory reply;
-  allowed = s.applied.allowed;
-  said = ap is_out_of_memory s.applied.replied;
+  allowed = s.allowed;
+  said = ap is_out_of_memory s.replied;
   driven = driven w g call kept stream0 stream reply s;
   stands = s.stands;
-  answered = sends ∙ ap (λ (r : Reply). append_known out0 (reply_encoding r)) s.applied.replied;
+  answered = sends ∙ ap (λ (r : Reply). append_known out0 (reply_encoding r)) s.replied;
   sends = s.sends;
 }
 answered_one w g call kept out0 out stream0 stream reply (Err e) s sends =
     let bytes = bytes_of s.commands in
     record {
       out_of_memory = is_out_of_memory reply;
-      allowed = s.applied.allowed;
+      allowed = s.allowed;
       driven = driven w g call kept stream0 stream reply s;
       said = sends.0;
       done = length bytes;
-      said_within = subst (λ (r : Reply). sends.0 ≤ length (reply_encoding r)) s.applied.replied sends.1;
+      said_within = subst (λ (r : Reply). sends.0 ≤ length (reply_encoding r)) s.replied sends.1;
       done_within = omega arith;
-      answered = sends.2 ∙ ap (λ (r : Reply). append_known out0 (take sends.0 (reply_encoding r))) s.applied.replied;
+      answered = sends.2 ∙ ap (λ (r : Reply). append_known out0 (take sends.0 (reply_encoding r))) s.replied;
       sends = s.sends ∙ ap (append_known stream0) (sym (take-length bytes));
       after = λ _. refl;
     }
@@ -59,12 +60,12 @@ nothing_added None = refl
 nothing_added (Some bytes) = ap Some (sym (append-nil bytes))
 
 -- a call whose commands were cut short
-pub cut_one : (w : PageState) (g : DriverState) (call : Call) (out stream0 stream : Option (List ℕ)) (failed : Failed)
+pub cut_one : (w : PageState) (g : DriverState) (call : Call) (out stream0 stream : Option (List ℕ)) (failed : WriteFault)
     → Stops w g call stream0 stream failed → OneCut w g call (sinks out stream0) (sinks out stream)
 cut_one w g call out stream0 stream failed s = record {
   out_of_memory = false;
   allowed = λ e. absurd cc;
-  driven = record { commands = s.commands; driver = s.driver; drives = record { fits = s.fits; replayed = s.replayed }; exact = s.exact };
+  driven = record { commands = s.commands; driver = s.driver; drives = record { fits = s.fit; replayed = s.replayed }; exact = s.exact };
   said = 0;
   done = s.sends.0;
   said_within = omega arith;

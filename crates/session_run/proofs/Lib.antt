@@ -1,14 +1,3 @@
-pub mod Handles
-pub mod SentBytes
-pub mod Sound
-pub mod Agreement
-pub mod Following
-pub mod FitCommands
-pub mod Steps
-pub mod Kept
-pub mod Binding
-pub mod Filling
-pub mod Opening
 pub mod Driving
 pub mod Answering
 pub mod Pushing

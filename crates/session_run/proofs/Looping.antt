@@ -12,11 +12,10 @@ use Rattle.command_stream.specs.Commands.{command_encoding}
 use Rattle.gl_model.specs.Shot.{Shot}
 use Rattle.gl_model.specs.PageState.{PageState, first_page}
 use Rattle.gl_model.specs.DriverState.{DriverState, first_driver}
-use Rattle.session_run.specs.PageStep.{step}
-use Rattle.session_run.specs.PageRun.{Taken, page_after, replies, shots, OutOfMemoryAllowed}
-use Rattle.session_run.specs.Sent.{all_sent}
-use Rattle.session_run.specs.Stands.{Kept, Stands}
-use Rattle.session_run.specs.Applied.{bytes_of}
+use Rattle.gl_context.specs.PageStep.{step}
+use Rattle.gl_context.specs.PageRun.{Taken, page_after, replies, shots, OutOfMemoryAllowed, all_sent}
+use Rattle.gl_context.specs.Stands.{Kept, Stands}
+use Rattle.gl_context.specs.Steps.{bytes_of}
 use Rattle.session_run.specs.Ends.{Sinks, Ends}
 use Rattle.session_run.specs.Serving.{calls_of, records_of, answered_by, place_after, HasRoomAfter, AreTaken, Drives, Progress}
 use Rattle.session_run.specs.Loop.{SoFar, OneAnswered, OneCut, RanUntilCut}

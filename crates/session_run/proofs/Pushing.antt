@@ -11,9 +11,9 @@ use Rattle.call_records.specs.declared.calls.Call.{Call}
 use Rattle.call_records.specs.Records.{encoding, Fits}
 use Rattle.call_records.specs.Replies.{reply_encoding}
 use Rattle.gl_model.specs.PageState.{PageState, first_page}
-use Rattle.session_run.specs.PageStep.{MayBeOutOfMemory, is_out_of_memory}
-use Rattle.session_run.specs.PageRun.{Taken, step_taken, page_after, replies, shots, OutOfMemoryAllowed}
-use Rattle.session_run.specs.Sent.{sent, all_sent}
+use Rattle.gl_context.specs.PageStep.{MayBeOutOfMemory, is_out_of_memory}
+use Rattle.gl_context.specs.PageRun.{Taken, step_taken, page_after, replies, shots, OutOfMemoryAllowed, all_sent}
+use Rattle.gl_context.specs.Sent.{sent}
 use Rattle.session_run.specs.Serving.{calls_of, records_of, answers_of, answered_by, HasRoomAfter, HeadersWithin, AreTaken}
 
 pub page_after-push : (w : PageState) (ts : List Taken) (t : Taken) → page_after w (ts ++ t ∷ []) ≡ (step_taken (page_after w ts) t).page

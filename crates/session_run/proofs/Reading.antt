@@ -12,8 +12,8 @@ use Rattle.call_records.specs.declared.reading.ReadEnd.{ReadEnd}
 use Rattle.call_records.specs.declared.reading.ReadEnd.TheVariants.{Truncated, Magic, Version, UnknownOp, BodyLong, BodyShape, AfterEnd, InputLong, ReadFault}
 use Rattle.call_records.specs.Records.{session_start, Fits}
 use Rattle.call_records.specs.Reading.{StartAnswers, Answers, HasRoom}
-use Rattle.session_run.specs.PageRun.{Taken}
-use Rattle.session_run.specs.Stands.{Kept}
+use Rattle.gl_context.specs.PageRun.{Taken}
+use Rattle.gl_context.specs.Stands.{Kept}
 use Rattle.session_run.specs.Ends.{Ends}
 use Rattle.session_run.specs.Serving.{calls_of, records_of, place_after}
 use Rattle.session_run.specs.Statuses.{status_of}

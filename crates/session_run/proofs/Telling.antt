@@ -16,10 +16,9 @@ use Rattle.gl_model.specs.PageState.{PageState, first_page}
 use Rattle.gl_model.specs.DriverState.{DriverState, first_driver}
 use Rattle.gl_model.specs.Replay.{Replayed}
 use Rattle.gl_model.specs.Shot.{Shot}
-use Rattle.session_run.specs.PageStep.{step}
-use Rattle.session_run.specs.PageRun.{Taken, step_taken, page_after, replies, shots}
-use Rattle.session_run.specs.Sent.{all_sent}
-use Rattle.session_run.specs.Applied.{bytes_of}
+use Rattle.gl_context.specs.PageStep.{step}
+use Rattle.gl_context.specs.PageRun.{Taken, step_taken, page_after, replies, shots, all_sent}
+use Rattle.gl_context.specs.Steps.{bytes_of}
 use Rattle.session_run.specs.Ends.{Sinks, Ends, ends}
 use Rattle.session_run.specs.Serving.{calls_of, records_of, answered_by, AreTaken, Drives}
 use Rattle.session_run.specs.Loop.{ReadWhole, ReadRefused, RanUntilCut, RunsRecords}

@@ -1,14 +1,3 @@
-pub mod ObjectRecords
-pub mod BufferRecords
-pub mod ErrorRecords
-pub mod PageStep
-pub mod PageRun
-pub mod Sent
-pub mod Stands
-pub mod Codes
-pub mod Found
-pub mod Applied
-pub mod Follows
 pub mod Ends
 pub mod Serving
 pub mod Loop
@@ -17,7 +6,6 @@ pub mod Statuses
 pub mod Reads
 pub mod Causes
 pub mod Outcomes
-pub mod Filled
 pub mod Tallies
 pub mod ReplayOutcomes
 pub mod Playing

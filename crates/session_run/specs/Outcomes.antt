@@ -15,10 +15,10 @@ use Rattle.gl_model.specs.Shot.{Shot}
 use Rattle.gl_model.specs.PageState.{first_page}
 use Rattle.gl_model.specs.DriverState.{first_driver}
 use Rattle.gl_model.specs.Replay.{replay}
-use Rattle.session_run.specs.PageStep.{step, MayBeOutOfMemory}
-use Rattle.session_run.specs.PageRun.{Taken, page_after, replies, shots}
-use Rattle.session_run.specs.Sent.{sent, all_sent}
-use Rattle.session_run.specs.Applied.{bytes_of}
+use Rattle.gl_context.specs.PageStep.{step, MayBeOutOfMemory}
+use Rattle.gl_context.specs.PageRun.{Taken, page_after, replies, shots, all_sent}
+use Rattle.gl_context.specs.Sent.{sent}
+use Rattle.gl_context.specs.Steps.{bytes_of}
 use Rattle.session_run.specs.Ends.{Ends}
 use Rattle.session_run.specs.Unchanged.{ErrorsChangeNothing}
 use Rattle.session_run.specs.Serving.{calls_of, records_of, answered_by, place_after, HasRoomAfter, AreTaken}

@@ -15,10 +15,9 @@ use Rattle.gl_model.specs.PageState.{first_page}
 use Rattle.gl_model.specs.DriverState.{DriverState, first_driver}
 use Rattle.gl_model.specs.Replay.{replay, clean}
 use Rattle.gl_model.specs.Shot.{Shot}
-use Rattle.session_run.specs.PageStep.{is_out_of_memory}
-use Rattle.session_run.specs.PageRun.{Taken, replies, shots, OutOfMemoryAllowed}
-use Rattle.session_run.specs.Sent.{all_sent}
-use Rattle.session_run.specs.Applied.{bytes_of}
+use Rattle.gl_context.specs.PageStep.{is_out_of_memory}
+use Rattle.gl_context.specs.PageRun.{Taken, replies, shots, OutOfMemoryAllowed, all_sent}
+use Rattle.gl_context.specs.Steps.{bytes_of}
 use Rattle.session_run.specs.Ends.{Sinks}
 
 -- the calls that were taken

@@ -6,9 +6,10 @@ use Rattle.gl_numbers.specs.declared.errors.GlError.TheVariants.{Memory}
 use Rattle.call_records.specs.declared.replies.Value.TheVariants.{Nothing}
 use Rattle.gl_model.specs.Errors.{raise}
 use Rattle.gl_model.specs.PageState.{PageState}
-use Rattle.session_run.specs.PageStep.{refusal, is_out_of_memory}
-use Rattle.session_run.specs.PageRun.{Taken, step_taken}
-use Rattle.session_run.specs.Sent.{sent}
+use Rattle.gl_context.specs.Row.{refusal_of}
+use Rattle.gl_context.specs.PageStep.{row_of, is_out_of_memory}
+use Rattle.gl_context.specs.PageRun.{Taken, step_taken}
+use Rattle.gl_context.specs.Sent.{sent}
 
 -- the call answers the error with no value, changes the error flags alone, and sends nothing (WebGL 1.0 section 5.14)
 pub record RaisesAlone (w : PageState) (t : Taken) (error : GlError) : Type 0 where
@@ -20,6 +21,6 @@ pub record RaisesAlone (w : PageState) (t : Taken) (error : GlError) : Type 0 wh
 unfoldable pub ErrorsChangeNothing : PageState → List Taken → Type 0
 ErrorsChangeNothing w [] = Unit {0}
 ErrorsChangeNothing w (t ∷ ts) =
-    ((error : GlError) → refusal w t.call ≡ Some error → RaisesAlone w t error)
+    ((error : GlError) → refusal_of (row_of w t.call) ≡ Some error → RaisesAlone w t error)
     × (is_out_of_memory (step_taken w t).reply ≡ true → RaisesAlone w t Memory)
     × ErrorsChangeNothing (step_taken w t).page ts

@@ -5,17 +5,12 @@
 #![tactic(auto)]
 
 mod applying;
-mod buffer_calls;
-mod errors;
 mod kinds;
 mod line;
-mod object_calls;
-mod page;
 mod pieces;
 mod records;
 mod replay;
 mod replay_end;
-mod sending;
 mod session;
 mod tally;
 

@@ -5,7 +5,7 @@ ghost use Rattle.call_records.specs.declared.calls.Call as Calls;
 ghost use Rattle.command_stream.specs.Commands.{stream_start};
 ghost use Rattle.gl_model.specs.PageState.{first_page};
 ghost use Rattle.gl_model.specs.DriverState.{first_driver};
-ghost use Rattle.session_run.specs.Stands.{Stands};
+ghost use Rattle.gl_context.specs.Stands.{Stands};
 ghost use Rattle.session_run.specs.Ends.{ends, faults_of};
 ghost use Rattle.session_run.specs.Statuses.{status_of};
 ghost use Rattle.session_run.specs.Reads.{ReadsAs, SessionReads};
@@ -16,9 +16,9 @@ use crate::kinds::{
     KIND_AFTER_END, KIND_BODY_LONG, KIND_BODY_SHAPE, KIND_HEADER_LATE, KIND_MAGIC, KIND_OPERATION,
     KIND_VERSION,
 };
-use crate::page::{Open, Page};
 use crate::records::{RunEnd, run_records};
 use call_records::{ReadEnd, RecordBuf, read_start};
+use gl_context::{Context, Open};
 use std::alloc::Global;
 use std::marker::Brand;
 use std::sync::ledger::{Blank, Ledger};
@@ -28,14 +28,14 @@ use wire_io::{Sink, Source, Status};
 /// Runs a session whose stream's header was written: reads its header, and then reads, answers and sends.
 #[tactic(auto, using(crate::proofs::Telling::told_records, crate::proofs::Telling::told_start))]
 fn run_opened<S: Source, O: Sink, T: Sink, L: Ledger>(
-    page: &mut Page,
+    context: &mut Context,
     buf: &mut RecordBuf,
     input: &mut S,
     out: &mut O,
     stream: &mut T,
     blank: Blank,
 ) -> Result<(), RunEnd>
-    requires stands { Stands page.old first_page first_driver }
+    requires stands { Stands context.old first_page first_driver }
     requires name { blank.name ≡ L.name }
     requires parts { blank.parts ≡ L.parts }
     requires two { L.parts ≡ 2 }
@@ -48,7 +48,7 @@ fn run_opened<S: Source, O: Sink, T: Sink, L: Ledger>(
 {
     let mut steps = Steps::<L>::start(blank);
     match read_start(input) {
-        Ok(()) => run_records(page, buf, input, out, stream, &mut steps),
+        Ok(()) => run_records(context, buf, input, out, stream, &mut steps),
         Err(end) => Err(RunEnd::Read(end)),
     }
 }
@@ -86,7 +86,7 @@ fn finish<O: Sink, T: Sink>(status: Status, out: &mut O, stream: &mut T) -> Stat
     status
 }
 
-/// Runs a session: takes the memory for its records, opens the page, which writes the stream's header, and only then reads:
+/// Runs a session: takes the memory for its records, opens the context, which writes the stream's header, and only then reads:
 /// the session's header, and each call, of which it sends the commands and then writes the reply. It flushes both sinks at
 /// the end.
 pub fn run_session<S: Source, O: Sink, T: Sink>(
@@ -115,13 +115,13 @@ pub fn run_session<S: Source, O: Sink, T: Sink>(
         Ok(buf) => buf,
         Err(_) => return finish(Status::OutOfMemory, out, stream),
     };
-    let mut page = match Page::open(alloc, stream) {
-        Ok(page) => page,
+    let mut context = match Context::open(alloc, stream) {
+        Ok(context) => context,
         Err(Open::Memory) => return finish(Status::OutOfMemory, out, stream),
         Err(Open::Write) => return Status::WriteFault,
     };
     let ended = run_opened::<S, O, T, Brand>(
-        &mut page,
+        &mut context,
         &mut buf,
         input,
         out,

@@ -7,7 +7,7 @@ use Rattle.session_run.proofs.records.run_records.Goals as goal
 
 pub loop-call-init : goal.loop-call-init
 loop-call-init g c = record {
-  so_far = begins _ c.args.page.now c.requires;
+  so_far = begins _ c.args.context.now c.requires;
   within = omega arith;
   later = record { input = omega arith; out = omega arith; stream = omega arith };
 }
@@ -40,3 +40,6 @@ returns-in_default-clause-runs g c =
     let room : c.loop-call.at + 8 ≤ 2 ^ 62 = c.in-Ok-Call.ensures.room in
     cut_short _ _ _ _ _ c.in-Ok-Call.call so_far (rw c.in-Ok-Call.field-0-is at c.in-Ok-Call.ensures.fits) room
     (rw c.in-Ok-Call.field-0-is at c.in-Ok-Call.ensures.taken) (c.in_default.ensures.answers _ _ so_far.stands)
+
+pub answer-requires-clause-working : goal.answer-requires-clause-working
+answer-requires-clause-working g c = c.loop-call.invariant.so_far.stands.working

@@ -28,12 +28,12 @@ returns-in-Err-Write-clause-outcome g c =
 
 pub returns-in_default-clause-outcome : goal.returns-in_default-clause-outcome
 returns-in_default-clause-outcome g c =
-    finished Status.Ok c.finish-in_default.result _ _ _ _ _ _ _ _ _ _ (c.in_default.ensures.did _ c.in-Ok-open.ensures.opens.1)
+    finished Status.Ok c.finish-in_default.result _ _ _ _ _ _ _ _ _ _ (c.in_default.ensures.did _ c.in-Ok-open.ensures.opens.0)
     c.finish-in_default.ensures.replies c.finish-in_default.ensures.commands c.finish-in_default.ensures.finishes
 
 pub returns-in-Read-clause-outcome : goal.returns-in-Read-clause-outcome
 returns-in-Read-clause-outcome g c =
-    let did = rw c.in-Read.is at (c.in-Err-ended.ensures.did _ c.in-Ok-open.ensures.opens.1) in
+    let did = rw c.in-Read.is at (c.in-Err-ended.ensures.did _ c.in-Ok-open.ensures.opens.0) in
     finished c.status_of.result c.finish-in-Read.result _ _ _ _ _ _ _ _ _ _ (told_ended c.in-Read.end c.status_of.result _ _ c.status_of.ensures did)
     c.finish-in-Read.ensures.replies c.finish-in-Read.ensures.commands c.finish-in-Read.ensures.finishes
 
@@ -50,7 +50,7 @@ returns-in-Read-clause-complete g c = λ calls fits e short faultless.
     absurd (faultless.input_stood (c.run_opened-ended.ensures.cause.read (c.in-Err-ended.is ∙ ap Err c.in-Read.is ∙ ap (λ (x : ReadEnd). Err (Read x)) fault)))
 
 pub returns-clause-outcome : goal.returns-clause-outcome
-returns-clause-outcome g c = rw c.in-Write.is at (c.in-Err-ended.ensures.did _ c.in-Ok-open.ensures.opens.1)
+returns-clause-outcome g c = rw c.in-Write.is at (c.in-Err-ended.ensures.did _ c.in-Ok-open.ensures.opens.0)
 
 pub returns-in-Read-clause-never : goal.returns-in-Read-clause-never
 returns-in-Read-clause-never g c =

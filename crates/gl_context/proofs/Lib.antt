@@ -1,0 +1,5 @@
+pub mod Agreeing
+pub mod Sounding
+pub mod SentBytes
+pub mod Keeping
+pub mod Tying

@@ -1,0 +1,58 @@
+-- The bytes of few commands, and which commands are short enough.
+use Rattle.std.proofs.Common.{◌≡◌, ℕ, ℤ, ◌+◌, ◌≤◌, Option, Some, None, Result, List, [], ◌∷◌, ◌++◌, length, refl, subst, sym, ap, append-nil, length-append, arith}
+use Rattle.std.specs.Borrow.{Bor}
+use Rattle.gl_numbers.specs.Bytes.{le32, le64}
+use Rattle.gl_numbers.proofs.Bytes.{length-le32, length-le64}
+use Rattle.wire_io.specs.Sinks.{Sends}
+use Rattle.std.specs.Io.KnownBytes.{append_known}
+use Rattle.command_stream.specs.declared.command.Command.{Command}
+use Rattle.command_stream.specs.declared.command.Command.TheVariants as command
+use Rattle.command_stream.specs.declared.object_commands.ObjectCommand.TheVariants.{MakeBuffer, DropBuffer}
+use Rattle.command_stream.specs.declared.buffer_commands.BufferCommand.TheVariants.{BindBuffer, BufferSize, BufferBytes}
+use Rattle.command_stream.specs.Commands.{command_encoding, Allowed}
+use Rattle.call_records.specs.declared.calls.Call.TheVariants.{Buffer}
+use Rattle.call_records.specs.declared.buffer_calls.BufferCall.TheVariants.{BufferData, BufferSubData}
+use Rattle.call_records.specs.declared.buffer_calls.Fill.TheVariants.{Bytes}
+use Rattle.call_records.specs.Records.{Fits}
+use Rattle.gl_context.specs.Steps.{bytes_of}
+
+-- sending one command is sending a list of one
+pub sends_one : {T E : Type 0} (old new : Option (List ℕ)) (result : Result T E) (command : Command) → Sends old new result (command_encoding command)
+    → Sends old new result (bytes_of (command ∷ []))
+sends_one old new result command h = subst (Sends old new result) (sym (append-nil (command_encoding command))) h
+
+-- no command adds no byte
+pub nothing_sent : (old : Option (List ℕ)) → old ≡ append_known old (bytes_of [])
+nothing_sent None = refl
+nothing_sent (Some held) = ap Some (sym (append-nil held))
+
+-- a size's body is short
+pub allowed_size : (target usage size : ℕ) → Allowed (command.Buffer (BufferSize target usage size))
+allowed_size target usage size = simp (length-append, length-le32) (omega arith)
+
+-- the body of bytes is two words longer than they are
+pub allowed_bytes : (target offset : ℕ) (part : Bor (List ℕ)) → 8 + length part.now ≤ 16777280 → Allowed (command.Buffer (BufferBytes target offset part))
+allowed_bytes target offset part short = simp (length-append, length-le32) (omega arith)
+
+-- a name's body is short
+pub allowed_make : (name : ℕ) → Allowed (command.Object (MakeBuffer name))
+allowed_make name = simp length-le32 (omega arith)
+
+pub allowed_drop : (name : ℕ) → Allowed (command.Object (DropBuffer name))
+allowed_drop name = simp length-le32 (omega arith)
+
+-- a target's and a name's body is short
+pub allowed_bind : (target name : ℕ) → Allowed (command.Buffer (BindBuffer target name))
+allowed_bind target name = simp (length-append, length-le32) (omega arith)
+
+-- the bytes of a call that has a record are two words shorter than its body
+pub bytes_fit : (target usage : ℕ) (tail : Bor (List ℕ)) → Fits (Buffer (BufferData target usage (Bytes tail))) → 8 + length tail.now ≤ 16777280
+bytes_fit target usage tail fits =
+    let body : length (le32 target ++ (le32 usage ++ tail.now)) ≤ 16777280 = fits.body in
+    omega (arith, simp (length-append, length-le32) at body)
+
+-- the bytes of a bufferSubData are three words shorter, so that they fit a command too
+pub part_fit : (target : ℕ) (offset : ℤ) (tail : Bor (List ℕ)) → Fits (Buffer (BufferSubData target offset tail)) → 8 + length tail.now ≤ 16777280
+part_fit target offset tail fits =
+    let body : length (le32 target ++ (le64 offset ++ tail.now)) ≤ 16777280 = fits.body in
+    omega (arith, simp (length-append, length-le32, length-le64) at body)

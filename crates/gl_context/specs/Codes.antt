@@ -1,0 +1,58 @@
+-- How what is kept of two pages is told apart: it is a tuple of its parts.
+use Rattle.std.specs.Prelude.{◌≡◌, ℕ, ◌==◌, if◌then◌else◌, Bool, Option, List, refl}
+use Rattle.std.specs.Coded.{Coded, code_by, coded_list, coded_option, coded×, coded_ℕ, coded_bool}
+use Rattle.gl_numbers.specs.declared.kinds.Kind as Kinds
+use Rattle.gl_numbers.specs.declared.kinds.Kind.TheVariants.{Buffer, Texture, Renderbuffer, Framebuffer, Shader, Program}
+use Rattle.object_names.specs.Objects as Names
+use Rattle.buffer_store.specs.Stored.{Stored}
+use Rattle.buffer_store.specs.Codes.{stored_code}
+use Rattle.gl_model.specs.Errors.{ErrorSet}
+use Rattle.gl_context.specs.Stands.{Kept}
+
+abbrev number_of_kind : Kinds.Kind → ℕ
+number_of_kind Buffer = 0
+number_of_kind Texture = 1
+number_of_kind Renderbuffer = 2
+number_of_kind Framebuffer = 3
+number_of_kind Shader = 4
+number_of_kind Program = 5
+
+abbrev kind_of_number : ℕ → Kinds.Kind
+kind_of_number n =
+    if n == 0 then Buffer
+    else (if n == 1 then Texture
+    else (if n == 2 then Renderbuffer
+    else (if n == 3 then Framebuffer
+    else (if n == 4 then Shader else Program))))
+
+pub kind_again : (k : Kinds.Kind) → kind_of_number (number_of_kind k) ≡ k
+kind_again Buffer = refl
+kind_again Texture = refl
+kind_again Renderbuffer = refl
+kind_again Framebuffer = refl
+kind_again Shader = refl
+kind_again Program = refl
+
+abbrev pub kind_code : Coded Kinds.Kind
+kind_code = code_by ℕ coded_ℕ number_of_kind kind_of_number kind_again
+
+abbrev pub object_code : Coded Names.Object
+object_code =
+    code_by (Kinds.Kind × (Bool × ℕ)) (coded× kind_code (coded× coded_bool coded_ℕ)) (λ o. (o.kind, (o.marked, o.holds)))
+    (λ p. record { kind = p.0; marked = p.1.0; holds = p.1.1 }) (λ _. refl)
+
+abbrev pub given_code : Coded Names.Given
+given_code =
+    code_by (List Names.Object × Option Kinds.Kind) (coded× (coded_list object_code) (coded_option kind_code)) (λ g. (g.objects, g.room))
+    (λ p. record { objects = p.0; room = p.1 }) (λ _. refl)
+
+abbrev pub errors_code : Coded ErrorSet
+errors_code =
+    code_by (Bool × (Bool × (Bool × (Bool × Bool)))) (coded× coded_bool (coded× coded_bool (coded× coded_bool (coded× coded_bool coded_bool))))
+    (λ e. (e.invalid_enum, (e.invalid_value, (e.invalid_operation, (e.out_of_memory, e.invalid_framebuffer_operation)))))
+    (λ p. record { invalid_enum = p.0; invalid_value = p.1.0; invalid_operation = p.1.1.0; out_of_memory = p.1.1.1.0; invalid_framebuffer_operation = p.1.1.1.1 }) (λ _. refl)
+
+abbrev pub kept_code : Coded Kept
+kept_code =
+    code_by (Names.Given × (Stored × (ErrorSet × Bool))) (coded× given_code (coded× stored_code (coded× errors_code coded_bool))) (λ k. (k.names, (k.buffers, (k.errors, k.failed))))
+    (λ p. record { names = p.0; buffers = p.1.0; errors = p.1.1.0; failed = p.1.1.1 }) (λ _. refl)

@@ -1,0 +1,16 @@
+pub mod Row
+pub mod ObjectRows
+pub mod BufferRows
+pub mod QueryRows
+pub mod PageStep
+pub mod PageRun
+pub mod Sent
+pub mod Stands
+pub mod Tied
+pub mod Follows
+pub mod Filled
+pub mod Found
+pub mod Deeds
+pub mod Steps
+pub mod Opening
+pub mod Codes

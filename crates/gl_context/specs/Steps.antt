@@ -1,0 +1,50 @@
+-- What the context does with one call, seen from the page's and the driver's states that it stands for.
+use Rattle.std.specs.Prelude.{◌≡◌, ℕ, true, false, Option, Some, None, List, Result, Ok, Err, All}
+use Rattle.std.specs.List.{flat_map}
+use Rattle.std.specs.Option.{option_to_list}
+use Rattle.std.specs.Io.KnownBytes.{append_known}
+use Rattle.wire_io.specs.Sinks.{Sends}
+use Rattle.call_records.specs.declared.calls.Call.{Call}
+use Rattle.call_records.specs.declared.replies.Reply.{Reply}
+use Rattle.command_stream.specs.declared.command.Command.{Command}
+use Rattle.command_stream.specs.Commands.{command_encoding}
+use Rattle.command_stream.specs.Plain.{Fits}
+use Rattle.gl_model.specs.PageState.{PageState}
+use Rattle.gl_model.specs.DriverState.{DriverState}
+use Rattle.gl_model.specs.Replay.{replay, clean}
+use Rattle.gl_context.specs.PageStep.{step, MayBeOutOfMemory, is_out_of_memory}
+use Rattle.gl_context.specs.Sent.{sent}
+use Rattle.gl_context.specs.Stands.{Kept, Stands}
+use Rattle.gl_context.specs.declared.context.WriteFault.{WriteFault}
+
+-- the bytes of commands
+abbrev pub bytes_of : List Command → List ℕ
+bytes_of commands = flat_map command_encoding commands
+
+-- a call was answered by a step of the page's machine, with out of memory read off the reply; the commands that were sent
+-- replay without a fault to exactly the step's Shot, and what is kept stands for the page and the driver after it
+pub record Steps (w : PageState) (g : DriverState) (call : Call) (kept : Kept) (old new : Option (List ℕ)) (reply : Reply) : Type 0 where
+  pub commands : List Command
+  pub driver : DriverState
+  pub allowed : is_out_of_memory reply ≡ true → MayBeOutOfMemory w call
+  pub replied : reply ≡ (step w call (is_out_of_memory reply)).reply
+  pub sends : new ≡ append_known old (bytes_of commands)
+  pub fit : All Fits commands
+  pub replayed : replay g commands ≡ clean driver (option_to_list (step w call (is_out_of_memory reply)).made) commands
+  pub stands : Stands kept (step w call (is_out_of_memory reply)).page driver
+  pub exact : commands ≡ sent w call (is_out_of_memory reply)
+
+-- a write failed in the commands of a call: a prefix of them was sent. They replay without a fault to exactly the Shot of the
+-- call's step in which memory didn't run out
+pub record Stops (w : PageState) (g : DriverState) (call : Call) (old new : Option (List ℕ)) (failed : WriteFault) : Type 0 where
+  pub commands : List Command
+  pub driver : DriverState
+  pub sends : Sends {T = Unit {0}} old new (Err failed) (bytes_of commands)
+  pub fit : All Fits commands
+  pub replayed : replay g commands ≡ clean driver (option_to_list (step w call false).made) commands
+  pub exact : commands ≡ sent w call false
+
+-- a call was answered so, or a write failed
+abbrev pub StepsOrStops : PageState → DriverState → Call → Kept → Option (List ℕ) → Option (List ℕ) → Result Reply WriteFault → Type 0
+StepsOrStops w g call kept old new (Ok reply) = Steps w g call kept old new reply
+StepsOrStops w g call kept old new (Err failed) = Stops w g call old new failed

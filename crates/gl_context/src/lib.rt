@@ -1,0 +1,16 @@
+//! A WebGL 1.0 context: the page's machine, and the context that keeps what stands for its state. The contract in one
+//! sentence: each call is answered by the page's step, and the commands that it sends replay on the driver's machine
+//! without a fault to exactly the step's Shot (WebGL 1.0 section 5.14; OpenGL ES 2.0 chapter 2).
+//!
+//! A call is judged and acts on the stores without a sink; only then its commands are written.
+#![tactic(auto)]
+
+mod buffer_calls;
+mod context;
+mod deed;
+mod errors;
+mod object_calls;
+mod query_calls;
+mod sending;
+
+pub use context::{Context, Open, WriteFault};
