@@ -3,7 +3,9 @@ use Rattle.std.proofs.Common.{◌≡◌, None, Some, List, [], ◌∷◌, map, r
 use Rattle.std.specs.Prelude.{All, Option}
 use Rattle.std.specs.Option.{option_map_or}
 use Rattle.command_stream.specs.declared.command.Command.{Command}
-use Rattle.command_stream.specs.declared.command.Command.TheVariants.{MakeBuffer, DropBuffer, BindBuffer, BufferSize, BufferBytes}
+use Rattle.command_stream.specs.declared.command.Command.TheVariants.{Object, Buffer}
+use Rattle.command_stream.specs.declared.object_commands.ObjectCommand.TheVariants.{MakeBuffer, DropBuffer}
+use Rattle.command_stream.specs.declared.buffer_commands.BufferCommand.TheVariants.{BindBuffer, BufferSize, BufferBytes}
 use Rattle.command_stream.specs.Commands.{stream}
 use Rattle.command_stream.specs.Plain as Plain
 use Rattle.command_stream.specs.Plain.{plain}
@@ -11,23 +13,23 @@ use Rattle.command_stream.proofs.OneEncoding.{stream-one}
 use Rattle.gl_model.specs.DriverState.{DriverState, first_driver}
 use Rattle.gl_model.specs.DriverStep as Driver
 use Rattle.gl_model.specs.DriverStep.{Fault, gl_error}
-use Rattle.gl_model.specs.Refusals.{Rule, first_refusal}
+use Rattle.gl_numbers.specs.Refusals.{Rule, first_refusal}
 use Rattle.gl_model.specs.Replay.{Replayed, replay, fault_of, after, ended}
 
 -- where a command's bytes lie means nothing to the driver
 pub plain-rules : (g : DriverState) (command : Command) → Driver.rules g (plain command) ≡ Driver.rules g command
-plain-rules g (MakeBuffer name) = refl
-plain-rules g (DropBuffer name) = refl
-plain-rules g (BindBuffer target name) = refl
-plain-rules g (BufferSize target usage size) = refl
-plain-rules g (BufferBytes target offset part) = refl
+plain-rules g (Object (MakeBuffer name)) = refl
+plain-rules g (Object (DropBuffer name)) = refl
+plain-rules g (Buffer (BindBuffer target name)) = refl
+plain-rules g (Buffer (BufferSize target usage size)) = refl
+plain-rules g (Buffer (BufferBytes target offset part)) = refl
 
 pub plain-effect : (g : DriverState) (command : Command) → Driver.effect g (plain command) ≡ Driver.effect g command
-plain-effect g (MakeBuffer name) = refl
-plain-effect g (DropBuffer name) = refl
-plain-effect g (BindBuffer target name) = refl
-plain-effect g (BufferSize target usage size) = refl
-plain-effect g (BufferBytes target offset part) = refl
+plain-effect g (Object (MakeBuffer name)) = refl
+plain-effect g (Object (DropBuffer name)) = refl
+plain-effect g (Buffer (BindBuffer target name)) = refl
+plain-effect g (Buffer (BufferSize target usage size)) = refl
+plain-effect g (Buffer (BufferBytes target offset part)) = refl
 
 -- nor to the replay
 pub plain-replay : (g : DriverState) (commands : List Command) → replay g (map plain commands) ≡ replay g commands

@@ -1,5 +1,5 @@
 -- What a run did with all the bytes that it was given, by its status.
-use Rattle.std.specs.Prelude.{◌≡◌, ℕ, ◌+◌, ◌<◌, ◌≤◌, ◌⊎◌, Bool, true, Option, Some, None, List, [], ◌∷◌, ◌++◌, length, take, map, Result, Ok, Err, All}
+use Rattle.std.specs.Prelude.{◌≡◌, ℕ, ◌+◌, ◌<◌, ◌≤◌, ◌⊎◌, true, Option, Some, None, List, [], ◌∷◌, ◌++◌, length, take, map, Result, Ok, Err, All}
 use Rattle.wire_io.specs.declared.status.Status as Statuses
 use Rattle.wire_io.specs.declared.status.Status.TheVariants as Status
 use Rattle.call_records.specs.declared.reading.Step.{Step}
@@ -15,8 +15,8 @@ use Rattle.gl_model.specs.Shot.{Shot}
 use Rattle.gl_model.specs.PageState.{first_page}
 use Rattle.gl_model.specs.DriverState.{first_driver}
 use Rattle.gl_model.specs.Replay.{replay}
-use Rattle.gl_context.specs.PageStep.{step, MayBeOutOfMemory}
-use Rattle.gl_context.specs.PageRun.{Taken, page_after, replies, shots, all_sent}
+use Rattle.gl_context.specs.PageStep.{MayBeOutOfMemory}
+use Rattle.gl_context.specs.PageRun.{Taken, step_taken, page_after, replies, shots, all_sent}
 use Rattle.gl_context.specs.Sent.{sent}
 use Rattle.gl_context.specs.Steps.{bytes_of}
 use Rattle.session_run.specs.Ends.{Ends}
@@ -102,25 +102,24 @@ pub record CutInCall (run : Transcript) : Type 0 where
   pub replied : List ℕ
   pub sent_before : List ℕ
   pub served : Served taken replied sent_before
-  pub call : Call
-  pub fits : Fits call
+  pub last : Taken
+  pub fits : Fits last.call
   pub room : HasRoomAfter (calls_of taken)
-  pub read : run.input ≡ session_start ++ (records_of (calls_of taken) ++ encoding call) ++ run.left
-  pub out_of_memory : Bool
-  pub allowed : out_of_memory ≡ true → MayBeOutOfMemory (page_after first_page taken) call
+  pub read : run.input ≡ session_start ++ (records_of (calls_of taken) ++ encoding last.call) ++ run.left
+  pub allowed : last.out_of_memory ≡ true → MayBeOutOfMemory (page_after first_page taken) last.call
   pub said : ℕ
-  pub said_within : said ≤ length (reply_encoding (step (page_after first_page taken) call out_of_memory).reply)
-  pub replied_partly : run.answered ≡ replied ++ take said (reply_encoding (step (page_after first_page taken) call out_of_memory).reply)
+  pub said_within : said ≤ length (reply_encoding (step_taken (page_after first_page taken) last).reply)
+  pub replied_partly : run.answered ≡ replied ++ take said (reply_encoding (step_taken (page_after first_page taken) last).reply)
   pub more : List Command
   pub done : ℕ
   pub done_within : done ≤ length (bytes_of more)
   pub sent_partly : run.sends ≡ sent_before ++ take done (bytes_of more)
   pub after : 0 < said → done ≡ length (bytes_of more)
   pub more_fit : All Commands.Fits more
-  pub drawn : (replay first_driver (served.commands ++ more)).shots ≡ shots first_page (taken ++ record { call = call; out_of_memory = out_of_memory } ∷ [])
+  pub drawn : (replay first_driver (served.commands ++ more)).shots ≡ shots first_page (taken ++ last ∷ [])
   pub faultless : (replay first_driver (served.commands ++ more)).fault ≡ None
   -- the commands are exactly those of the call
-  pub exact : more ≡ sent (page_after first_page taken) call out_of_memory
+  pub exact : more ≡ sent (page_after first_page taken) last.call last.out_of_memory
   -- what follows from the definitions alone: no prefix of these commands has a fault
   pub prefixes : (k : ℕ) → (replay first_driver (take k (served.commands ++ more))).fault ≡ None
 

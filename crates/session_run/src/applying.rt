@@ -39,7 +39,8 @@ pub fn step(
     requires taken { taken ≡ decoder.old.taken }
     requires some { 0 < length piece.now }
     ensures within { IfOk result (λ n. (0 < n) × (n ≤ length piece.now)) }
-    ensures steps { (all : List ℕ) → SoFar all decoder.old machine.old tally.old → StepsOn all piece.now decoder.new machine.new tally.new result }
+    ensures steps { (all : List ℕ) → SoFar all decoder.old machine.old tally.old
+        → StepsOn all piece.now decoder.new machine.new tally.new result }
 {
     if decoder.idle() && taken + HEADER_BYTES as u64 > INPUT_MAX {
         return Err(ReplayEnd::Late(taken));

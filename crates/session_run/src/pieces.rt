@@ -25,7 +25,8 @@ fn take_piece(
     requires playing { Playing decoder.old machine.old tally.old }
     requires taken { taken ≡ decoder.old.taken }
     requires short { length piece.now ≤ PIECE_BYTES }
-    ensures takes { (all : List ℕ) → SoFar all decoder.old machine.old tally.old → TakesPiece all piece.now decoder.new machine.new tally.new result }
+    ensures takes { (all : List ℕ) → SoFar all decoder.old machine.old tally.old
+        → TakesPiece all piece.now decoder.new machine.new tally.new result }
 {
     let mut used = 0;
     while used < piece.len() {
@@ -46,7 +47,9 @@ fn read_pieces<S: Source>(
 ) -> Result<(), ReplayEnd>
     requires playing { Playing decoder.old machine.old tally.old }
     requires taken { decoder.old.taken ≡ START_BYTES }
-    ensures reads { (all : List ℕ) → SoFar all decoder.old machine.old tally.old → HasMagic all → ReadsOn all (S.left input.old) (S.left input.new) decoder.new machine.new tally.new result }
+    ensures reads { (all : List ℕ) → SoFar all decoder.old machine.old tally.old
+        → HasMagic all
+        → ReadsOn all (S.left input.old) (S.left input.new) decoder.new machine.new tally.new result }
     ensures cause { StreamCause (S.faults input.old) (S.faults input.new) result }
 {
     let mut piece = [0u8; PIECE_BYTES];

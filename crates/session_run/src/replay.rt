@@ -40,9 +40,15 @@ fn replay_all<S: Source>(alloc: Global, input: &mut S) -> Result<(u64, Tally), R
 pub fn replay_session<S: Source, O: Sink>(alloc: Global, input: &mut S, out: &mut O) -> Status
     ensures outcome { WhereTold (ReplayOutcome result (O.held out.old) (O.held out.new)) (S.left input.old) (S.left input.new) }
     ensures silent { IsSilent result (O.held out.old) (O.held out.new) }
-    ensures cause { ReplayCause (O.handed_on out.new) (S.faults input.old) (S.faults input.new) (O.faults out.old) (O.faults out.new) result }
-    ensures complete { (commands : List Commands.Command) → All Fits commands → S.left input.old ≡ Some (stream commands) → length (stream commands) ≤ 2 ^ 62 → (Rose (S.faults input.old) (S.faults input.new) → ⊥) → (Rose (O.faults out.old) (O.faults out.new) → ⊥) → IsReplayed commands result }
-    ensures no_fault { (commands : List Commands.Command) → All Fits commands → S.left input.old ≡ Some (stream commands) → (replay first_driver commands).fault ≡ None → (number code : ℕ) → result ≡ Status.ReplayFault number code → ⊥ }
+    ensures cause { ReplayCause (O.handed_on out.new)
+        (S.faults input.old) (S.faults input.new) (O.faults out.old) (O.faults out.new) result }
+    ensures complete { (commands : List Commands.Command) → All Fits commands
+        → S.left input.old ≡ Some (stream commands) → length (stream commands) ≤ 2 ^ 62
+        → (Rose (S.faults input.old) (S.faults input.new) → ⊥)
+        → (Rose (O.faults out.old) (O.faults out.new) → ⊥) → IsReplayed commands result }
+    ensures no_fault { (commands : List Commands.Command) → All Fits commands
+        → S.left input.old ≡ Some (stream commands) → (replay first_driver commands).fault ≡ None
+        → (number code : ℕ) → result ≡ Status.ReplayFault number code → ⊥ }
 {
     match replay_all(alloc, input) {
         Ok((count, tally)) => tell(alloc, count, tally, out),

@@ -32,7 +32,8 @@ pub fn run_tool<S: Source, O: Sink, T: Sink>(
     stream: &mut T,
 ) -> Status
     // Usage comes exactly where the words aren't those of a command, and nothing is read or written then
-    ensures usage { (result ≡ Status.Usage) ↔ ((is_run (map string_bytes words.now) ≡ false) × (is_replay (map string_bytes words.now) ≡ false)) }
+    ensures usage { (result ≡ Status.Usage)
+        ↔ ((is_run (map string_bytes words.now) ≡ false) × (is_replay (map string_bytes words.now) ≡ false)) }
     ensures input_unused { result ≡ Status.Usage → input.new ≡ input.old }
     ensures out_unused { result ≡ Status.Usage → out.new ≡ out.old }
     ensures stream_unused { result ≡ Status.Usage → stream.new ≡ stream.old }
@@ -94,7 +95,8 @@ pub fn run_tool<S: Source, O: Sink, T: Sink>(
     ensures replay_write_fault { is_replay (map string_bytes words.now) ≡ true → result ≡ Status.WriteFault
         → Rose (O.faults out.old) (O.faults out.new) }
     ensures after_replay_write_fault { is_replay (map string_bytes words.now) ≡ true → result ≡ Status.WriteFault
-        → WhereTold (λ old new. (O.held out.new ≡ O.held out.old) ⊎ PartlyToldStream (O.held out.old) (O.held out.new) old new) (S.left input.old) (S.left input.new) }
+        → WhereTold (λ old new. (O.held out.new ≡ O.held out.old) ⊎ PartlyToldStream (O.held out.old) (O.held out.new) old new)
+        (S.left input.old) (S.left input.new) }
     ensures replay_silent { is_replay (map string_bytes words.now) ≡ true → IsSilent result (O.held out.old) (O.held out.new) }
     ensures replay_stream_unused { is_replay (map string_bytes words.now) ≡ true → stream.new ≡ stream.old }
     // a whole stream is replayed where no object fails, and to its end where it has no fault, as what `run` sends has none
