@@ -21,15 +21,18 @@ without_at : (shelf : Shelf) (k : ℕ) (t : BufferTarget) (q : ℕ) → IsOf t (
     → IsBoundFirst (remove shelf k) t (cond b None (Some q))
 without_at shelf k t q has true e = tt
 without_at shelf k t q has false e =
-    subst (λ (o : Option StoredBuffer). IsOf t o) (sym (get-remove nat_cmp_total shelf k q ∙ ap (λ b. cond b None (get shelf q)) (unsigned_tied q k ∙ e))) has
+    let same : get (remove shelf k) q ≡ get shelf q = get-remove nat_cmp_total shelf k q ∙ ap (λ b. cond b None (get shelf q)) (unsigned_tied q k ∙ e) in
+    subst (λ (o : Option StoredBuffer). IsOf t o) (sym same) has
 
 -- a binding that is no longer of the buffer that is gone
-pub IsBoundFirst-without : (shelf : Shelf) (k : ℕ) (t : BufferTarget) (h : Option ℕ) → IsBoundFirst shelf t h → IsBoundFirst (remove shelf k) t (without k h)
+pub IsBoundFirst-without : (shelf : Shelf) (k : ℕ) (t : BufferTarget) (h : Option ℕ) → IsBoundFirst shelf t h
+    → IsBoundFirst (remove shelf k) t (without k h)
 IsBoundFirst-without shelf k t None is = tt
 IsBoundFirst-without shelf k t (Some q) is = without_at shelf k t q is (q == k) refl
 
 -- both bindings, where neither is of the buffer that is gone
-pub AreBoundFirst-unbind : (shelf : Shelf) (k : ℕ) (bound : Bindings) → AreBoundFirst shelf bound → AreBoundFirst (remove shelf k) (unbind k bound)
+pub AreBoundFirst-unbind : (shelf : Shelf) (k : ℕ) (bound : Bindings) → AreBoundFirst shelf bound
+    → AreBoundFirst (remove shelf k) (unbind k bound)
 AreBoundFirst-unbind shelf k bound are = record {
   array = IsBoundFirst-without shelf k Array bound.array are.array;
   element_array = IsBoundFirst-without shelf k ElementArray bound.element_array are.element_array;

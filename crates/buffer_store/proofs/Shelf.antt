@@ -22,7 +22,8 @@ module _ {X : Type 0} where
 
   -- to put a value where it stands changes nothing
   pub insert_same : (m : FinMap nat_cmp X) (k : ℕ) (v : X) → get m k ≡ Some v → insert m k v ≡ m
-  insert_same m k v e = same_map nat_cmp_total nat_cmp-IsAntisymmetric _ _ (λ q. get-insert nat_cmp_total m k v q ∙ same_at m k v e q (nat_cmp q k) refl)
+  insert_same m k v e =
+      same_map nat_cmp_total nat_cmp-IsAntisymmetric _ _ (λ q. get-insert nat_cmp_total m k v q ∙ same_at m k v e q (nat_cmp q k) refl)
 
 -- what stands at a handle after each change, by the test whether it is the handle that changed
 module _ {X : Type 0} where
@@ -55,7 +56,8 @@ find_below : (q n : ℕ) (slots : List (Option StoredBuffer)) → q < n → find
 unfolding slots_from
 find_below q n [] l = refl
 find_below q n (None ∷ slots) l = find_below q (suc n) slots (omega arith)
-find_below q n (Some b ∷ slots) l = cond-false _ _ _ (tied_apart q n (λ e. omega (arith, e)) (q == n) refl) ∙ find_below q (suc n) slots (omega arith)
+find_below q n (Some b ∷ slots) l =
+    cond-false _ _ _ (tied_apart q n (λ e. omega (arith, e)) (q == n) refl) ∙ find_below q (suc n) slots (omega arith)
 
 -- what is found at a place is what the slot has
 find_slot : (q i n : ℕ) (slots : List (Option StoredBuffer)) → q ≡ n + i → find nat_cmp q (slots_from n slots) ≡ get_or slots i None
@@ -64,7 +66,8 @@ find_slot q i n [] e = refl
 find_slot q zero n (None ∷ slots) e = find_below q (suc n) slots (omega arith)
 find_slot q zero n (Some b ∷ slots) e = cond-true _ _ _ (unsigned_tied q n ∙ eq-eqb q n (omega arith))
 find_slot q (suc i) n (None ∷ slots) e = find_slot q i (suc n) slots (omega arith)
-find_slot q (suc i) n (Some b ∷ slots) e = cond-false _ _ _ (tied_apart q n (λ f. omega (arith, f)) (q == n) refl) ∙ find_slot q i (suc n) slots (omega arith)
+find_slot q (suc i) n (Some b ∷ slots) e =
+    cond-false _ _ _ (tied_apart q n (λ f. omega (arith, f)) (q == n) refl) ∙ find_slot q i (suc n) slots (omega arith)
 
 -- what the shelf has at a handle
 pub get-shelf : (slots : List (Option StoredBuffer)) (q : ℕ) → get (shelf_of slots) q ≡ get_or slots q None
@@ -85,25 +88,29 @@ get_or-written xs i q x d l true e = ap (λ k. get_or (set xs i x) k d) (eqb-tru
 get_or-written xs i q x d l false e = get_or-set_other xs i q x d (eqb-false q i e)
 
 -- a buffer put into a slot is one inserted into the shelf
-pub shelf-put : (slots : List (Option StoredBuffer)) (h : ℕ) (b : StoredBuffer) → h < length slots → shelf_of (set slots h (Some b)) ≡ insert (shelf_of slots) h b
+pub shelf-put : (slots : List (Option StoredBuffer)) (h : ℕ) (b : StoredBuffer) → h < length slots
+    → shelf_of (set slots h (Some b)) ≡ insert (shelf_of slots) h b
 shelf-put slots h b l = same_shelf _ _
     (λ q. get-shelf (set slots h (Some b)) q ∙ get_or-written slots h q (Some b) None l (q == h) refl
     ∙ ap (cond (q == h) (Some b)) (sym (get-shelf slots q)) ∙ sym (get-inserted (shelf_of slots) h b q))
 
 -- a cleared slot is a buffer removed from the shelf
-pub shelf-cleared : (slots : List (Option StoredBuffer)) (h : ℕ) → h < length slots → shelf_of (set slots h None) ≡ remove (shelf_of slots) h
+pub shelf-cleared : (slots : List (Option StoredBuffer)) (h : ℕ) → h < length slots
+    → shelf_of (set slots h None) ≡ remove (shelf_of slots) h
 shelf-cleared slots h l = same_shelf _ _
     (λ q. get-shelf (set slots h None) q ∙ get_or-written slots h q None None l (q == h) refl
     ∙ ap (cond (q == h) None) (sym (get-shelf slots q)) ∙ sym (get-removed (shelf_of slots) h q))
 
-absent_at : (slots : List (Option StoredBuffer)) (h q : ℕ) → length slots ≤ h → (b : Bool) → (q == h) ≡ b → get_or slots q None ≡ cond b None (get_or slots q None)
+absent_at : (slots : List (Option StoredBuffer)) (h q : ℕ) → length slots ≤ h → (b : Bool) → (q == h) ≡ b
+    → get_or slots q None ≡ cond b None (get_or slots q None)
 absent_at slots h q l true e = get_or_past slots q None (let same : q ≡ h = eqb-true q h e in omega arith)
 absent_at slots h q l false e = refl
 
 -- nothing is removed where there is no slot
 pub shelf-absent : (slots : List (Option StoredBuffer)) (h : ℕ) → length slots ≤ h → remove (shelf_of slots) h ≡ shelf_of slots
 shelf-absent slots h l = same_shelf _ _
-    (λ q. get-removed (shelf_of slots) h q ∙ ap (cond (q == h) None) (get-shelf slots q) ∙ sym (absent_at slots h q l (q == h) refl) ∙ sym (get-shelf slots q))
+    (λ q. get-removed (shelf_of slots) h q ∙ ap (cond (q == h) None) (get-shelf slots q)
+    ∙ sym (absent_at slots h q l (q == h) refl) ∙ sym (get-shelf slots q))
 
 get_or-more : (slots : List (Option StoredBuffer)) (q : ℕ) → get_or (slots ++ None ∷ []) q None ≡ get_or slots q None
 get_or-more [] zero = refl

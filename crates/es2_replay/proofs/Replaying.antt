@@ -4,16 +4,11 @@ use Rattle.std.specs.Option.{option_to_list}
 use Rattle.command_stream.specs.declared.command.Command.{Command}
 use Rattle.gl_model.specs.DriverState.{DriverState}
 use Rattle.gl_model.specs.DriverStep.{Fault, effect, shot}
-use Rattle.gl_model.specs.Replay.{replay, clean, ended, after, fault_of}
+use Rattle.gl_model.specs.Replay.{replay, clean, ended, fault_of}
 use Rattle.gl_model.specs.Shot as Model
-use Rattle.gl_model.proofs.Replaying.{resumed, replay-append}
+use Rattle.gl_model.proofs.Replaying.{resumed, replay-append, replay-one}
 use Rattle.es2_replay.specs.declared.faults.Shot.{Shot}
 use Rattle.es2_replay.specs.Applied.{Applies}
-
--- one command without a fault
-pub replay-clear : (g : DriverState) (command : Command) → fault_of g command ≡ None → replay g (command ∷ []) ≡ after (shot g command) (ended (effect g command) None)
-unfolding replay
-replay-clear g command e = rw e refl
 
 -- a command that has a fault, whatever follows
 pub replay-fault : (g : DriverState) (command : Command) (rest : List Command) (fault : Fault) → fault_of g command ≡ Some fault
@@ -22,15 +17,14 @@ unfolding replay
 replay-fault g command rest fault e = rw e refl
 
 -- after commands without a fault the machine applied one more: their replay ends in the state that it leaves
-pub replayed_more : (first g new : DriverState) (made : List Model.Shot) (commands : List Command) (command : Command) (answer : Option Shot)
-    → replay first commands ≡ clean g made commands → Applies g command new (Ok answer)
+pub replayed_more : (first g new : DriverState) (made : List Model.Shot) (commands : List Command) (command : Command) (kind : Option Shot)
+    → replay first commands ≡ clean g made commands → Applies g command new (Ok kind)
     → replay first (commands ++ command ∷ []) ≡ clean new (made ++ option_to_list (shot g command)) (commands ++ command ∷ [])
-replayed_more first g new made commands command answer before applied =
-    let count : length commands + (0 + 1) ≡ length (commands ++ command ∷ []) = omega (arith, length-append commands (command ∷ [])) in
-    let shots : made ++ (option_to_list (shot g command) ++ []) ≡ made ++ option_to_list (shot g command) = ap (λ l. made ++ l) (append-nil (option_to_list (shot g command))) in
+replayed_more first g new made commands command kind before applied =
+    let count : length commands + 1 ≡ length (commands ++ command ∷ []) = omega (arith, length-append commands (command ∷ [])) in
     replay-append first g made commands (command ∷ []) before
-    ∙ ap (resumed made commands) (replay-clear g command applied.0)
-    ∙ (λ i. record { state = sym applied.1 i; shots = shots i; count = count i; fault = None })
+    ∙ ap (resumed made commands) (replay-one g command applied.0)
+    ∙ (λ i. record { state = sym applied.1 i; shots = made ++ option_to_list (shot g command); count = count i; fault = None })
 
 -- after commands without a fault the next has one: the replay ends there, whatever follows
 pub replayed_fault : (first g : DriverState) (made : List Model.Shot) (commands rest : List Command) (command : Command) (fault : Fault)

@@ -1,4 +1,4 @@
-ghost use Rattle.std.specs.Prelude.{◌≡◌, ◌+◌, ◌≤◌, length};
+ghost use Rattle.std.specs.Prelude.{◌≡◌, ◌+◌, ◌≤◌, Some, length};
 ghost use Rattle.gl_model.specs.Buffers.{new_buffer, take_target, take_data, patch};
 
 use gl_numbers::{BufferTarget, Usage};
@@ -48,10 +48,10 @@ impl BufferObject {
     }
 
     /// Takes a target, where it has none.
-    pub fn take_target(&mut self, target: Option<BufferTarget>)
-        ensures { self.new ≡ take_target target self.old }
+    pub fn take_target(&mut self, target: BufferTarget)
+        ensures { self.new ≡ take_target (Some target) self.old }
     {
-        self.first_target = self.first_target.or(target);
+        self.first_target = self.first_target.or(Some(target));
     }
 
     /// Takes new bytes in place of its own, and the usage of a word.
@@ -65,7 +65,7 @@ impl BufferObject {
     /// Writes bytes over its own, from an offset on.
     pub fn patch(&mut self, offset: usize, part: &[u8])
         requires { offset + length part.now ≤ length self.old.bytes }
-        ensures { self.new ≡ record self.old { bytes = patch self.old.bytes offset part.now } }
+        ensures { self.new ≡ patch offset part.now self.old }
     {
         self.bytes[offset..offset + part.len()].copy_from_slice(part);
     }

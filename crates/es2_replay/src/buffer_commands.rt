@@ -1,0 +1,207 @@
+ghost use Rattle.std.specs.Prelude.{◌≡◌, ◌+◌, ◌≤◌, None, Some, IfSome, OnOk, OnErr, length};
+ghost use Rattle.std.specs.Option.{option_and_then, option_copied};
+ghost use Rattle.command_stream.specs.declared.command.Command.TheVariants.{Buffer};
+ghost use Rattle.command_stream.specs.declared.buffer_commands.BufferCommand.TheVariants.{BindBuffer, BufferSize, BufferBytes};
+ghost use Rattle.gl_numbers.specs.BufferBindings.{bound_to, non_zero};
+ghost use Rattle.gl_model.specs.Buffers.{take_target, take_data, patch};
+ghost use Rattle.gl_model.specs.DriverStep.{refusal, effect};
+ghost use Rattle.es2_replay.specs.Kept.{named, state_of, IsChanged};
+ghost use Rattle.es2_replay.specs.Applied.{Acts};
+
+use crate::buffer_object::BufferObject;
+use crate::machine::Machine;
+use command_stream::BufferCommand;
+use gl_numbers::{BUFFER_BYTES_MAX, BufferTarget, GlError, Memory, Usage};
+
+impl Machine {
+    /// Why a command on a buffer is refused, if it is.
+    pub(crate) fn buffer_refusal(&self, c: &BufferCommand<'_>) -> Option<GlError>
+        ensures { result ≡ refusal (state_of self.now) (Buffer c.now) }
+    {
+        match c {
+            BufferCommand::BindBuffer { target, name } => self.bind_refusal(*target, *name),
+            BufferCommand::BufferSize {
+                target,
+                usage,
+                size,
+            } => self.size_refusal(*target, *usage, *size),
+            BufferCommand::BufferBytes {
+                target,
+                offset,
+                bytes,
+            } => self.bytes_refusal(*target, *offset, bytes),
+        }
+    }
+
+    /// What a command on a buffer does that nothing refuses. Err only where memory runs out, and then nothing changes.
+    pub(crate) fn act_on_buffer(&mut self, c: &BufferCommand<'_>) -> Result<(), Memory>
+        requires { refusal (state_of self.old) (Buffer c.now) ≡ None }
+        ensures acts { Acts (state_of self.old) (Buffer c.now) (state_of self.new) result }
+        ensures unchanged { OnErr result (self.new ≡ self.old) }
+        ensures count { self.new.count ≡ self.old.count }
+    {
+        match c {
+            BufferCommand::BindBuffer { target, name } => {
+                self.bind_buffer(*target, *name);
+                Ok(())
+            }
+            BufferCommand::BufferSize {
+                target,
+                usage,
+                size,
+            } => self.buffer_size(*target, *usage, *size),
+            BufferCommand::BufferBytes {
+                target,
+                offset,
+                bytes,
+            } => {
+                self.buffer_bytes(*target, *offset, bytes);
+                Ok(())
+            }
+        }
+    }
+
+    /// The name that is bound to the target of a word.
+    fn bound_to(&self, target: u32) -> Option<u32>
+        ensures { result ≡ bound_to self.now.bound target }
+    {
+        self.bound.get(BufferTarget::from_u32(target)?)
+    }
+
+    /// The first target of a name's buffer, where it is made and was bound.
+    fn first_target(&self, name: u32) -> Option<BufferTarget>
+        ensures { result ≡ option_and_then (λ b. b.first_target) (named self.now.made name) }
+    {
+        self.buffers.get(&name)?.first_target()
+    }
+
+    /// The buffer that is bound to the target of a word.
+    fn bound_buffer(&self, target: u32) -> Option<&BufferObject>
+        ensures { option_copied result ≡ option_and_then (named self.now.made) (bound_to self.now.bound target) }
+    {
+        self.buffers.get(&self.bound_to(target)?)
+    }
+
+    /// Why BindBuffer is refused, if it is.
+    fn bind_refusal(&self, target: u32, name: u32) -> Option<GlError>
+        ensures { result ≡ refusal (state_of self.now) (Buffer (BindBuffer target name)) }
+    {
+        let Some(wanted) = BufferTarget::from_u32(target) else {
+            return Some(GlError::Enum);
+        };
+        if name != 0 && !self.is_made(name) {
+            return Some(GlError::Operation);
+        }
+        match self.first_target(name) {
+            Some(first) if first != wanted => Some(GlError::Operation),
+            _ => None,
+        }
+    }
+
+    /// Why BufferSize is refused, if it is.
+    fn size_refusal(&self, target: u32, usage: u32, size: u32) -> Option<GlError>
+        ensures { result ≡ refusal (state_of self.now) (Buffer (BufferSize target usage size)) }
+    {
+        if BufferTarget::from_u32(target).is_none() || Usage::from_u32(usage).is_none() {
+            return Some(GlError::Enum);
+        }
+        if size > BUFFER_BYTES_MAX {
+            return Some(GlError::Value);
+        }
+        if self.bound_buffer(target).is_none() {
+            return Some(GlError::Operation);
+        }
+        None
+    }
+
+    /// Why BufferBytes is refused, if it is.
+    fn bytes_refusal(&self, target: u32, offset: u32, bytes: &[u8]) -> Option<GlError>
+        ensures { result ≡ refusal (state_of self.now) (Buffer (BufferBytes target offset bytes.entry)) }
+    {
+        if BufferTarget::from_u32(target).is_none() {
+            return Some(GlError::Enum);
+        }
+        let Some(buffer) = self.bound_buffer(target) else {
+            return Some(GlError::Operation);
+        };
+        if offset as usize + bytes.len() > buffer.bytes().len() {
+            return Some(GlError::Value);
+        }
+        None
+    }
+
+    /// The buffer of a name, where it is made, takes a target.
+    fn take_target(&mut self, name: u32, target: BufferTarget)
+        ensures { IsChanged (take_target (Some target)) name self.old self.new }
+    {
+        if let Some(buffer) = self.buffers.get_mut(&name) {
+            buffer.take_target(target);
+        }
+    }
+
+    /// The buffer of a name, where it is made, takes these bytes and the usage of a word.
+    fn take_data(&mut self, name: u32, usage: u32, bytes: Vec<u8>)
+        ensures { IsChanged (take_data usage bytes.items) name self.old self.new }
+    {
+        if let Some(buffer) = self.buffers.get_mut(&name) {
+            buffer.take_data(usage, bytes);
+        }
+    }
+
+    /// The buffer of a name, where it is made, takes bytes over its own, from an offset on.
+    fn patch(&mut self, name: u32, offset: usize, bytes: &[u8])
+        requires { IfSome (named self.old.made name) (λ b. offset + length bytes.now ≤ length b.bytes) }
+        ensures { IsChanged (patch offset bytes.now) name self.old self.new }
+    {
+        if let Some(buffer) = self.buffers.get_mut(&name) {
+            buffer.patch(offset, bytes);
+        }
+    }
+
+    /// BindBuffer of a name that is made, or of 0.
+    fn bind_buffer(&mut self, target: u32, name: u32)
+        ensures state { state_of self.new ≡ effect (state_of self.old) (Buffer (BindBuffer target name)) }
+        ensures count { self.new.count ≡ self.old.count }
+    {
+        let Some(wanted) = BufferTarget::from_u32(target) else {
+            return;
+        };
+        self.bound.set(wanted, non_zero(name));
+        self.take_target(name, wanted);
+    }
+
+    /// BufferSize of a buffer that is bound; its zeros are taken before anything changes.
+    fn buffer_size(&mut self, target: u32, usage: u32, size: u32) -> Result<(), Memory>
+        ensures state { OnOk result (state_of self.new ≡ effect (state_of self.old) (Buffer (BufferSize target usage size))) }
+        ensures unchanged { OnErr result (self.new ≡ self.old) }
+        ensures count { self.new.count ≡ self.old.count }
+    {
+        let Ok(zeros) = vec![in self.alloc; 0u8; size as usize] else {
+            return Err(Memory);
+        };
+        let Some(name) = self.bound_to(target) else {
+            return Ok(());
+        };
+        self.take_data(name, usage, zeros);
+        Ok(())
+    }
+
+    /// BufferBytes that lie inside the buffer that is bound.
+    fn buffer_bytes(&mut self, target: u32, offset: u32, bytes: &[u8])
+        requires { refusal (state_of self.old) (Buffer (BufferBytes target offset bytes)) ≡ None }
+        ensures state { state_of self.new ≡ effect (state_of self.old) (Buffer (BufferBytes target offset bytes.entry)) }
+        ensures count { self.new.count ≡ self.old.count }
+    {
+        let Some(name) = self.bound_to(target) else {
+            return;
+        };
+        self.patch(name, offset as usize, bytes);
+    }
+}
+
+/// A name, where 0 is none.
+fn non_zero(name: u32) -> Option<u32>
+    ensures { result ≡ non_zero name }
+{
+    if name == 0 { None } else { Some(name) }
+}
