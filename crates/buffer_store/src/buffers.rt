@@ -1,10 +1,12 @@
-ghost use Rattle.std.specs.Prelude.{◌≡◌, IsNone, IsSome, IfSome, OnOk, OnErr};
+ghost use Rattle.std.specs.Prelude.{◌≡◌, ◌≤◌, false, IsNone, IsSome, IfSome, OnOk, OnErr};
 ghost use Rattle.std.specs.Option.{ForSome};
 ghost use Rattle.std.specs.FinMap.{get, insert};
 ghost use Rattle.step_count.specs.Content.{content as lent};
 ghost use Rattle.gl_numbers.specs.declared.buffer_words.BufferTarget.TheVariants.{ElementArray};
 ghost use Rattle.gl_numbers.specs.BufferWords.{usage_word};
 ghost use Rattle.gl_numbers.specs.BufferBindings.{binding};
+ghost use Rattle.gl_numbers.specs.BufferRules.{is_negative, whole};
+ghost use Rattle.gl_numbers.specs.Limits.{buffer_bytes_max};
 ghost use Rattle.buffer_store.specs.StoredBuffer.{IsSound, new_stored};
 ghost use Rattle.buffer_store.specs.Content.{HasShortBytes};
 ghost use Rattle.buffer_store.specs.Stored.{IsBoundFirst, IsOf, nothing_stored};
@@ -116,6 +118,7 @@ impl Buffers {
     ) -> Result<(), GlError>
         ensures judged { Judged (sub_data_rules self.old target offset bytes.now) result }
         ensures ok { OnOk result (self.new ≡ patched self.old target offset bytes.now) }
+        ensures within { OnOk result ((is_negative offset ≡ false) × (whole offset ≤ buffer_bytes_max)) }
         ensures err { OnErr result (self.new ≡ self.old) }
     {
         let Ok(at) = u64::try_from(offset) else {

@@ -1,5 +1,10 @@
 pub mod Agreeing
 pub mod Sounding
 pub mod SentBytes
+pub mod Sent
 pub mod Keeping
 pub mod Tying
+pub mod Acting
+pub mod First
+pub mod Following
+pub mod Steps

@@ -1,5 +1,5 @@
 -- The bytes of few commands, and which commands are short enough.
-use Rattle.std.proofs.Common.{◌≡◌, ℕ, ℤ, ◌+◌, ◌≤◌, Option, Some, None, Result, List, [], ◌∷◌, ◌++◌, length, refl, subst, sym, ap, append-nil, length-append, arith}
+use Rattle.std.proofs.Common.{◌≡◌, ℕ, ℤ, ◌+◌, ◌≤◌, ◌<◌, ◌^◌, Option, Some, None, Result, List, [], ◌∷◌, ◌++◌, length, refl, subst, sym, ap, append-nil, length-append, arith}
 use Rattle.std.specs.Borrow.{Bor}
 use Rattle.gl_numbers.specs.Bytes.{le32, le64}
 use Rattle.gl_numbers.proofs.Bytes.{length-le32, length-le64}
@@ -11,8 +11,10 @@ use Rattle.command_stream.specs.declared.object_commands.ObjectCommand.TheVarian
 use Rattle.command_stream.specs.declared.buffer_commands.BufferCommand.TheVariants.{BindBuffer, BufferSize, BufferBytes}
 use Rattle.command_stream.specs.Commands.{command_encoding, Allowed}
 use Rattle.call_records.specs.declared.calls.Call.TheVariants.{Buffer}
-use Rattle.call_records.specs.declared.buffer_calls.BufferCall.TheVariants.{BufferData, BufferSubData}
-use Rattle.call_records.specs.declared.buffer_calls.Fill.TheVariants.{Bytes}
+use Rattle.call_records.specs.declared.buffer_calls.BufferCall.TheVariants.{BindBuffer as BindBufferCall, BufferData, BufferSubData}
+use Rattle.call_records.specs.declared.buffer_calls.Fill.{Fill}
+use Rattle.call_records.specs.declared.buffer_calls.Fill.TheVariants.{Size, Bytes}
+use Rattle.command_stream.specs.Plain as Stream
 use Rattle.call_records.specs.Records.{Fits}
 use Rattle.gl_context.specs.Steps.{bytes_of}
 
@@ -56,3 +58,31 @@ pub part_fit : (target : ℕ) (offset : ℤ) (tail : Bor (List ℕ)) → Fits (B
 part_fit target offset tail fits =
     let body : length (le32 target ++ (le64 offset ++ tail.now)) ≤ 16777280 = fits.body in
     omega (arith, simp (length-append, length-le32, length-le64) at body)
+
+-- which commands fit a stream, by their words
+pub fits_make : (name : ℕ) → name < 2 ^ 32 → Stream.Fits (command.Object (MakeBuffer name))
+fits_make name small = record { words = small; body = allowed_make name }
+
+pub fits_drop : (name : ℕ) → name < 2 ^ 32 → Stream.Fits (command.Object (DropBuffer name))
+fits_drop name small = record { words = small; body = allowed_drop name }
+
+pub fits_bind : (target name : ℕ) → target < 2 ^ 32 → name < 2 ^ 32 → Stream.Fits (command.Buffer (BindBuffer target name))
+fits_bind target name t n = record { words = (t, n); body = allowed_bind target name }
+
+pub fits_size : (target usage size : ℕ) → target < 2 ^ 32 → usage < 2 ^ 32 → size < 2 ^ 32 → Stream.Fits (command.Buffer (BufferSize target usage size))
+fits_size target usage size t u s = record { words = (t, u, s); body = allowed_size target usage size }
+
+pub fits_bytes : (target offset : ℕ) (part : Bor (List ℕ)) → target < 2 ^ 32 → offset < 2 ^ 32 → 8 + length part.now ≤ 16777280
+    → Stream.Fits (command.Buffer (BufferBytes target offset part))
+fits_bytes target offset part t o short = record { words = (t, o); body = allowed_bytes target offset part short }
+
+-- the words of calls that have records
+pub bind_words : (target handle : ℕ) → Fits (Buffer (BindBufferCall target handle)) → target < 2 ^ 32
+bind_words target handle fits = fits.words.0
+
+pub data_words : (target usage : ℕ) (fill : Fill) → Fits (Buffer (BufferData target usage fill)) → (target < 2 ^ 32) × (usage < 2 ^ 32)
+data_words target usage (Size size) fits = (fits.words.0, fits.words.1)
+data_words target usage (Bytes bytes) fits = (fits.words.0, fits.words.1)
+
+pub part_words : (target : ℕ) (offset : ℤ) (tail : Bor (List ℕ)) → Fits (Buffer (BufferSubData target offset tail)) → target < 2 ^ 32
+part_words target offset tail fits = fits.words.0

@@ -1,5 +1,5 @@
 -- The names and the stored buffers stay tied: a buffer is stored for each live object that is one.
-use Rattle.std.proofs.Common.{◌≡◌, ℕ, ◌+◌, Bool, true, false, cond, not, Option, Some, None, List, [], ◌∷◌, ◌++◌, length, refl, sym, ap, ◌∙◌, inl, inr}
+use Rattle.std.proofs.Common.{◌≡◌, ℕ, ℤ, ◌+◌, Bool, true, false, cond, not, Option, Some, None, List, [], ◌∷◌, ◌++◌, length, refl, sym, ap, ◌∙◌, inl, inr}
 use Rattle.std.specs.Prelude.{is_some, if◌then◌else◌, ◌==◌, ◌&&◌}
 use Rattle.std.specs.Option.{option_map, option_map_or}
 use Rattle.std.specs.FinMap.{get, insert, remove, get-empty}
@@ -7,14 +7,17 @@ use Rattle.std.specs.Ordering.{nat_cmp}
 use Rattle.std.proofs.lemmas.Bool.Decides.{eqb_tells}
 use Rattle.std.proofs.Math.Bool.{and-false}
 use Rattle.gl_numbers.specs.BufferBindings.{Bindings}
+use Rattle.gl_numbers.specs.BufferRules.{whole}
+use Rattle.gl_numbers.specs.declared.buffer_words.BufferTarget.{BufferTarget}
+use Rattle.gl_numbers.specs.declared.buffer_words.BufferTarget.TheVariants.{Array, ElementArray}
 use Rattle.gl_numbers.specs.ByHandle.{object_at, changed as changed_object}
 use Rattle.gl_numbers.proofs.ByHandle.{object_at-made, object_at-changed}
 use Rattle.gl_numbers.specs.declared.kinds.Kind.{Kind}
 use Rattle.gl_numbers.specs.declared.kinds.Kind.TheVariants as kind
 use Rattle.object_names.specs.Objects as Names
-use Rattle.buffer_store.specs.StoredBuffer.{StoredBuffer, new_stored}
+use Rattle.buffer_store.specs.StoredBuffer.{StoredBuffer, new_stored, with_bytes}
 use Rattle.buffer_store.specs.Stored.{Shelf, Stored, nothing_stored, changed}
-use Rattle.buffer_store.specs.Rules.{without_buffer}
+use Rattle.buffer_store.specs.Rules.{without_buffer, patched}
 use Rattle.buffer_store.proofs.Shelf.{get-inserted, get-removed, get-changed_at}
 use Rattle.gl_model.specs.PageState.{same_kind}
 use Rattle.gl_context.specs.Tied.{names_live, AreTied}
@@ -78,3 +81,9 @@ some-changed shelf (Some handle) f h = some-changed_at shelf handle f h
 pub tied-changed : (names : Names.Given) (stored : Stored) (bound : Bindings) (handle : Option ℕ) (f : StoredBuffer → StoredBuffer) → AreTied names stored
     → AreTied names (record { buffers = changed stored.buffers handle f; bound = bound })
 tied-changed names stored bound handle f tied h = some-changed stored.buffers handle f h ∙ tied h
+
+-- a buffer of which bytes were replaced
+pub tied-patched : (names : Names.Given) (stored : Stored) (t : BufferTarget) (offset : ℤ) (part : List ℕ) → AreTied names stored
+    → AreTied names (patched stored t offset part)
+tied-patched names stored Array offset part tied = tied
+tied-patched names stored ElementArray offset part tied = tied-changed names stored stored.bound stored.bound.element_array (with_bytes (whole offset) part) tied

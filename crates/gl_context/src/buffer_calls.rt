@@ -2,6 +2,8 @@ ghost use Rattle.std.specs.Prelude.{◌≡◌, ◌+◌, ◌≤◌, length, false
 ghost use Rattle.std.specs.FinMap.{get};
 ghost use Rattle.std.specs.Option.{ForSome};
 ghost use Rattle.gl_numbers.specs.BufferBindings.{non_zero};
+ghost use Rattle.gl_numbers.specs.BufferRules.{is_negative, whole};
+ghost use Rattle.gl_numbers.specs.Limits.{buffer_bytes_max};
 ghost use Rattle.gl_numbers.specs.BufferWords.{usage_word, buffer_size};
 ghost use Rattle.gl_model.specs.PageState.{PageState};
 ghost use Rattle.call_records.specs.Records.{Fits};
@@ -30,6 +32,15 @@ fn content_of(fill: Fill<'_>) -> Option<Content<'_>>
         Fill::Size(size) if size < 0 || size > i64::from(BUFFER_BYTES_MAX) => None,
         Fill::Size(size) => Some(Content::Size(size as u32)),
     }
+}
+
+/// An offset that isn't negative, and no more than a buffer has bytes, as a word.
+fn offset_word(offset: i64) -> u32
+    requires positive { is_negative offset ≡ false }
+    requires small { whole offset ≤ buffer_bytes_max }
+    ensures { result ≡ whole offset }
+{
+    offset as u32
 }
 
 /// The command that writes bytes into the bound buffer, from an offset on, where there are any.
@@ -177,7 +188,7 @@ impl Context {
         }
         Ok(Deed {
             value: Value::Nothing,
-            outgoing: part_sent(target, offset as u32, bytes),
+            outgoing: part_sent(target, offset_word(offset), bytes),
         })
     }
 

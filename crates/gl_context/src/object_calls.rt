@@ -99,7 +99,8 @@ impl Context {
 
     /// isBuffer (WebGL 1.0 section 5.14.5)
     fn is_buffer<'a>(&self, handle: Handle) -> Deed<'a>
-        ensures { (w : PageState) → Keeps self.now w → ActsBy (is_kind_row w object.Buffer handle) w self.now (Ok result) }
+        ensures acts { (w : PageState) → Keeps self.now w → ActsBy (is_kind_row w object.Buffer handle) w self.now (Ok result) }
+        ensures sendable { CanSend result.outgoing }
     {
         let is_live = self.names.is_kind(handle, Kind::Buffer);
         Deed::told(Value::Number(if is_live { 1 } else { 0 }))

@@ -2,7 +2,7 @@ ghost use Rattle.std.specs.Prelude.{◌≡◌, Ok};
 ghost use Rattle.gl_model.specs.PageState.{PageState};
 ghost use Rattle.gl_context.specs.QueryRows.{error_row, query_row};
 ghost use Rattle.gl_context.specs.Stands.{Keeps};
-ghost use Rattle.gl_context.specs.Deeds.{ActsBy};
+ghost use Rattle.gl_context.specs.Deeds.{ActsBy, CanSend};
 
 use crate::context::Context;
 use crate::deed::Deed;
@@ -12,6 +12,7 @@ impl Context {
     /// The calls that ask for the state of the context.
     pub(crate) fn query<'a>(&mut self, call: &QueryCall) -> Deed<'a>
         ensures acts { (w : PageState) → Keeps self.old w → ActsBy (query_row w call.now) w self.new (Ok result) }
+        ensures sendable { CanSend result.outgoing }
         ensures failed { self.new.failed ≡ self.old.failed }
     {
         match call {
@@ -22,6 +23,7 @@ impl Context {
     /// getError (WebGL 1.0 section 5.14.3)
     fn get_error<'a>(&mut self) -> Deed<'a>
         ensures acts { (w : PageState) → Keeps self.old w → ActsBy (error_row w) w self.new (Ok result) }
+        ensures sendable { CanSend result.outgoing }
         ensures failed { self.new.failed ≡ self.old.failed }
     {
         Deed::told(Value::Number(self.errors.take()))

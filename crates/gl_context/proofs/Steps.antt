@@ -1,0 +1,158 @@
+-- What the context did with a call, from what the call did to the stores and what was sent.
+use Rattle.std.proofs.Common.{◌≡◌, ℕ, Bool, true, false, Option, Some, None, List, [], Result, Ok, Err, refl, sym, ap, subst, ◌∙◌, inl, inr, All}
+use Rattle.std.specs.Prelude.{◌==◌, ◌⊎◌}
+use Rattle.std.specs.Option.{option_to_list}
+use Rattle.std.specs.Io.KnownBytes.{append_known}
+use Rattle.std.proofs.lemmas.List.Elements.{All-nil}
+use Rattle.gl_numbers.specs.Errors.{code_of}
+use Rattle.gl_numbers.specs.Refusals.{Rule, first_refusal}
+use Rattle.gl_numbers.proofs.Refusing.{never_memory}
+use Rattle.gl_numbers.specs.declared.errors.GlError.{GlError}
+use Rattle.gl_numbers.specs.declared.errors.GlError.TheVariants.{Enum, Value, Operation, Memory, Framebuffer}
+use Rattle.wire_io.specs.Sinks.{Sends}
+use Rattle.call_records.specs.Records.{Fits}
+use Rattle.call_records.specs.declared.calls.Call.{Call}
+use Rattle.call_records.specs.declared.calls.Call.TheVariants as call
+use Rattle.call_records.specs.declared.buffer_calls.BufferCall.{BufferCall}
+use Rattle.call_records.specs.declared.buffer_calls.BufferCall.TheVariants.{BindBuffer, BufferData, BufferSubData, GetBufferParameter}
+use Rattle.call_records.specs.declared.object_calls.ObjectCall.{ObjectCall}
+use Rattle.call_records.specs.declared.object_calls.ObjectCall.TheVariants.{Create, Delete, IsKind}
+use Rattle.call_records.specs.declared.object_calls.New.TheVariants as new
+use Rattle.call_records.specs.declared.query_calls.QueryCall.{QueryCall}
+use Rattle.call_records.specs.declared.query_calls.QueryCall.TheVariants.{GetError}
+use Rattle.call_records.specs.declared.replies.Value.TheVariants.{Nothing}
+use Rattle.call_records.specs.declared.replies.Reply.{Reply}
+use Rattle.command_stream.specs.declared.command.Command.{Command}
+use Rattle.command_stream.specs.Plain as Stream
+use Rattle.gl_model.specs.Errors.{ErrorSet, raise, smallest, clear_one}
+use Rattle.gl_model.specs.PageState.{PageState}
+use Rattle.gl_model.specs.DriverState.{DriverState}
+use Rattle.gl_model.proofs.Replaying.{replay-none}
+use Rattle.gl_context.specs.Row.{Stepped, raised, refusal_of, step_judged}
+use Rattle.gl_context.specs.PageStep.{row_of, step, MayRunOut, MayBeOutOfMemory, is_out_of_memory}
+use Rattle.gl_context.specs.ObjectRows.{object_row}
+use Rattle.gl_context.specs.BufferRows.{buffer_row}
+use Rattle.gl_context.specs.QueryRows.{query_row}
+use Rattle.gl_context.specs.Sent.{sent}
+use Rattle.gl_context.specs.Follows.{IsGood}
+use Rattle.gl_context.specs.Deeds.{HasReason}
+use Rattle.gl_context.specs.Stands.{Kept, Keeps, IsSound, Agrees, Stands}
+use Rattle.gl_context.specs.Steps.{bytes_of, Steps, Stops}
+use Rattle.gl_context.specs.declared.context.WriteFault.{WriteFault}
+use Rattle.gl_context.proofs.SentBytes.{nothing_sent, bind_words}
+use Rattle.gl_context.proofs.Following.{good-asking, good-create, good-delete, good-bind, good-data, good-sub_data, sound-errors, agrees-errors}
+
+-- each call on objects that acts is good
+good-object : (w : PageState) (g : DriverState) (c : ObjectCall) → IsSound w → Agrees w g → refusal_of (object_row w c) ≡ None → IsGood g (object_row w c)
+good-object w g (Create new.Buffer) sound agrees unrefused = good-create w g sound agrees unrefused
+good-object w g (Delete kind handle) sound agrees unrefused = good-delete w g kind handle sound agrees
+good-object w g (IsKind kind handle) sound agrees unrefused = good-asking w g (object_row w (IsKind kind handle)) sound agrees refl refl refl
+
+-- each call on buffers that acts is good
+good-buffer : (w : PageState) (g : DriverState) (c : BufferCall) → IsSound w → Agrees w g → Fits (call.Buffer c) → refusal_of (buffer_row w c) ≡ None → IsGood g (buffer_row w c)
+good-buffer w g (BindBuffer target handle) sound agrees fits unrefused = good-bind w g target handle sound agrees (bind_words target handle fits) unrefused
+good-buffer w g (BufferData target usage fill) sound agrees fits unrefused = good-data w g target usage fill sound agrees fits unrefused
+good-buffer w g (BufferSubData target offset bytes) sound agrees fits unrefused = good-sub_data w g target offset bytes sound agrees fits unrefused
+good-buffer w g (GetBufferParameter target name) sound agrees fits unrefused = good-asking w g (buffer_row w (GetBufferParameter target name)) sound agrees refl refl refl
+
+-- each query is good
+good-query : (w : PageState) (g : DriverState) (c : QueryCall) → IsSound w → Agrees w g → IsGood g (query_row w c)
+good-query w g GetError sound agrees = record {
+  sound = sound-errors w (clear_one (smallest w.errors) w.errors) sound;
+  fit = All-nil Stream.Fits;
+  follows = record { driver = g; replayed = replay-none g; agrees = agrees-errors w g (clear_one (smallest w.errors) w.errors) agrees };
+}
+
+-- each call that acts is good
+pub good-call : (w : PageState) (g : DriverState) (c : Call) → IsSound w → Agrees w g → Fits c → refusal_of (row_of w c) ≡ None → IsGood g (row_of w c)
+good-call w g (call.Object c) sound agrees fits unrefused = good-object w g c sound agrees unrefused
+good-call w g (call.Buffer c) sound agrees fits unrefused = good-buffer w g c sound agrees fits unrefused
+good-call w g (call.Query c) sound agrees fits unrefused = good-query w g c sound agrees
+
+-- the errors that rules raise aren't OUT_OF_MEMORY
+other-code : (rules : List Rule) (error : GlError) → first_refusal rules ≡ Some error → (code_of error == 1285) ≡ false
+other-code rules Enum e = refl
+other-code rules Value e = refl
+other-code rules Operation e = refl
+other-code rules Memory e = absurd (never_memory rules e)
+other-code rules Framebuffer e = refl
+
+-- what is kept stands after an error joined the flags
+keeps-raised : (kept : Kept) (w : PageState) (error : GlError) → Keeps kept w
+    → Keeps (record kept { errors = raise error kept.errors }) (record w { errors = raise error w.errors })
+keeps-raised kept w error k = record {
+  names = record { count = k.names.count; each = k.names.each };
+  buffers = k.buffers;
+  errors = ap (raise error) k.errors;
+}
+
+-- a call that raised an error, as a step
+steps-raised : (w : PageState) (g : DriverState) (c : Call) (kept : Kept) (old : Option (List ℕ)) (error : GlError) (out_of_memory : Bool) → Stands kept w g
+    → (code_of error == 1285) ≡ out_of_memory → (out_of_memory ≡ true → MayBeOutOfMemory w c)
+    → step w c out_of_memory ≡ raised w error
+    → Steps w g c (record kept { errors = raise error kept.errors }) old old (record { raised = code_of error; value = Nothing })
+steps-raised w g c kept old error out_of_memory s code allowed stepped =
+    let same : step w c (code_of error == 1285) ≡ raised w error = ap (step w c) code ∙ stepped in
+    record {
+      commands = [];
+      driver = g;
+      allowed = λ h. allowed (sym code ∙ h);
+      replied = sym (ap (λ (r : Stepped). r.reply) same);
+      sends = nothing_sent old;
+      fit = All-nil Stream.Fits;
+      replayed = rw same (replay-none g);
+      stands = rw same (record {
+        working = s.working;
+        keeps = keeps-raised kept w error s.keeps;
+        sound = sound-errors w (raise error w.errors) s.sound;
+        agrees = agrees-errors w g (raise error w.errors) s.agrees;
+      });
+      exact = sym (ap (λ (r : Stepped). r.sends) same);
+    }
+
+-- a call that raises an error
+pub steps-error : (w : PageState) (g : DriverState) (c : Call) (kept : Kept) (old : Option (List ℕ)) (error : GlError) → Stands kept w g
+    → HasReason (row_of w c) error
+    → Steps w g c (record kept { errors = raise error kept.errors }) old old (record { raised = code_of error; value = Nothing })
+steps-error w g c kept old error s (inl refused) =
+    steps-raised w g c kept old error false s (other-code (row_of w c).rules error refused) (λ no. absurd cc) (ap (step_judged w (row_of w c) false) refused)
+steps-error w g c kept old error s (inr ran_out) =
+    let code : (code_of error == 1285) ≡ true = rw ran_out.0 refl in
+    steps-raised w g c kept old error true s code (λ h. ran_out.1) (ap (step_judged w (row_of w c) true) ran_out.1.unrefused ∙ (rw ran_out.0 refl))
+
+-- a call that acted
+pub steps-acted : (w : PageState) (g : DriverState) (c : Call) (before kept : Kept) (commands : List Command) (old new : Option (List ℕ)) (reply : Reply) → Stands before w g → Fits c
+    → refusal_of (row_of w c) ≡ None → commands ≡ (row_of w c).commands → Keeps kept (row_of w c).next → kept.failed ≡ false
+    → reply ≡ record { raised = 0; value = (row_of w c).value } → new ≡ append_known old (bytes_of commands)
+    → Steps w g c kept old new reply
+steps-acted w g c before kept commands old new reply s fits unrefused sends keeps working replied sent =
+    let good = good-call w g c s.sound s.agrees fits unrefused in
+    let code : is_out_of_memory reply ≡ false = rw replied refl in
+    let acted : step w c (is_out_of_memory reply) ≡ step_judged w (row_of w c) false None = ap (step w c) code ∙ ap (step_judged w (row_of w c) false) unrefused in
+    record {
+      commands = commands;
+      driver = good.follows.driver;
+      allowed = λ h. absurd (let no : false ≡ true = sym code ∙ h in cc);
+      replied = replied ∙ sym (ap (λ (r : Stepped). r.reply) acted);
+      sends = sent;
+      fit = rw sends good.fit;
+      replayed = rw (acted, sends) good.follows.replayed;
+      stands = rw acted (record { working = working; keeps = keeps; sound = good.sound; agrees = good.follows.agrees });
+      exact = sends ∙ sym (ap (λ (r : Stepped). r.sends) acted);
+    }
+
+-- a call whose commands were cut short
+pub stops-acted : (w : PageState) (g : DriverState) (c : Call) (before : Kept) (commands : List Command) (old new : Option (List ℕ)) (failed : WriteFault) → Stands before w g → Fits c
+    → refusal_of (row_of w c) ≡ None → commands ≡ (row_of w c).commands → Sends {T = Unit {0}} old new (Err failed) (bytes_of commands)
+    → Stops w g c old new failed
+stops-acted w g c before commands old new failed s fits unrefused sends cut =
+    let good = good-call w g c s.sound s.agrees fits unrefused in
+    let acted : step w c false ≡ step_judged w (row_of w c) false None = ap (step_judged w (row_of w c) false) unrefused in
+    record {
+      commands = commands;
+      driver = good.follows.driver;
+      sends = cut;
+      fit = rw sends good.fit;
+      replayed = rw (acted, sends) good.follows.replayed;
+      exact = sends ∙ sym (ap (λ (r : Stepped). r.sends) acted);
+    }
