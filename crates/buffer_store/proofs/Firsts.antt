@@ -7,7 +7,7 @@ use Rattle.gl_numbers.specs.declared.buffer_words.BufferTarget.{BufferTarget}
 use Rattle.gl_numbers.specs.declared.buffer_words.BufferTarget.TheVariants.{Array, ElementArray}
 use Rattle.gl_numbers.specs.BufferBindings.{Bindings, unbind, without}
 use Rattle.buffer_store.specs.StoredBuffer.{StoredBuffer, with_first}
-use Rattle.buffer_store.specs.Stored.{Shelf, IsOf, IsBoundFirst, AreBoundFirst, KeepsFirst, changed_at}
+use Rattle.buffer_store.specs.Stored.{Shelf, IsOf, IsBoundFirst, AreBoundFirst, changed_at}
 use Rattle.buffer_store.proofs.Shelf.{insert_same}
 
 -- a buffer of its target stays as it is

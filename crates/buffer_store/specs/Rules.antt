@@ -13,8 +13,8 @@ use Rattle.gl_numbers.specs.BufferBindings.{binding, bind, unbind}
 use Rattle.gl_numbers.specs.BufferRules.{BufferView, whole, bad_size, negative_offset, other_target, nothing_bound, past_the_end}
 use Rattle.buffer_store.specs.declared.content.Content.{Content}
 use Rattle.buffer_store.specs.Content.{size_of, buffer_of}
-use Rattle.buffer_store.specs.StoredBuffer.{StoredBuffer, view_of, with_first, with_bytes}
-use Rattle.buffer_store.specs.Stored.{Stored, changed, found, bound_buffer}
+use Rattle.buffer_store.specs.StoredBuffer.{view_of, with_first, with_bytes}
+use Rattle.buffer_store.specs.Stored.{Stored, changed, found}
 
 -- a call returns the error of the first rule that applies, and Ok where none does
 abbrev pub Judged : List Rule → Result (Unit {0}) GlError → Type 0

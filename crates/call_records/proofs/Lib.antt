@@ -1,4 +1,8 @@
 pub mod Lengths
+pub mod ObjectLaws
+pub mod BufferLaws
+pub mod QueryLaws
+pub mod TableLaws
 pub mod Refusals
 pub mod Sending
 pub mod OneEncoding

@@ -1,172 +1,41 @@
 -- Each encoding is of one call, and no refusal comes before the rest of a session.
-use Rattle.std.proofs.Common.{◌≡◌, ℕ, ℤ, ◌+◌, ◌<◌, ◌≤◌, ◌^◌, ◌⊎◌, List, [], ◌∷◌, ◌++◌, length, take, drop, Some, Result, Ok, Err, IsOk, All, true, inl, inr, refl, sym, ap, ◌∙◌, arith, append_assoc, length-append, append-nil, lit<}
-use Rattle.std.proofs.Math.Seq.{take-append_seam, drop-append_seam}
-use Rattle.std.proofs.lemmas.Nat.{from_le_bytes-to_le_bytes_4, from_le_bytes-to_le_bytes_8}
-use Rattle.std.proofs.lemmas.Int.{to_z-of_z}
-use Rattle.std.proofs.Math.Facts.{Fits-of_z}
-use Rattle.std.proofs.lemmas.Bool.{le-leb}
+use Rattle.std.proofs.Common.{◌≡◌, ℕ, ◌+◌, ◌<◌, ◌≤◌, ◌^◌, ◌⊎◌, List, [], ◌∷◌, ◌++◌, length, Result, Ok, Err, IsOk, All, true, inl, inr, refl, sym, ap, ◌∙◌, arith, append_assoc, length-append, append-nil, lit<}
 use Rattle.std.proofs.lemmas.List.{append_cancel_left}
 use Rattle.std.proofs.lemmas.List.Elements.{All-head, All-tail}
-use Rattle.std.specs.Int.{from_le_bytes, to_le_bytes, cast_signed, cast_unsigned, w32, w64}
 use Rattle.std.specs.List.{flat_map}
-use Rattle.gl_numbers.specs.Bytes.{le32, le64, IsLong}
-use Rattle.gl_numbers.proofs.Bytes.{length-le32, length-le64, Same, le32-one}
+use Rattle.gl_numbers.specs.Bytes.{le32}
+use Rattle.gl_numbers.proofs.Bytes.{length-le32, Same, le32-one}
+use Rattle.gl_numbers.proofs.OneRecord.{record-one, record-parted, allows-fits}
 use Rattle.call_records.specs.declared.operations.TheConstants.{CLOSE, BODY_MAX}
-use Rattle.call_records.specs.declared.operations.Operation.{Operation}
-use Rattle.call_records.specs.declared.operations.Operation.TheVariants as Op
-use Rattle.call_records.specs.declared.object_calls.New.TheVariants as New
-use Rattle.call_records.specs.declared.object_calls.ObjectKind.TheVariants as Kind
-use Rattle.call_records.specs.declared.object_calls.ObjectCall.TheVariants.{Create, Delete, IsKind}
-use Rattle.call_records.specs.declared.buffer_calls.Fill.TheVariants.{Size, Bytes}
-use Rattle.call_records.specs.declared.buffer_calls.BufferCall.TheVariants.{BindBuffer, BufferData, BufferSubData, GetBufferParameter}
-use Rattle.call_records.specs.declared.query_calls.QueryCall.TheVariants.{GetError}
 use Rattle.call_records.specs.declared.calls.Call.{Call}
-use Rattle.call_records.specs.declared.calls.Call.TheVariants.{Object, Buffer, Query}
-use Rattle.call_records.specs.Operations.{number_of, operation_numbered, is_known, has_shape}
-use Rattle.call_records.specs.Records.{operation_of, op_of, body_of, encoding, HasWords, Fits, plain, session_start, closing_record, session}
+use Rattle.call_records.specs.Operations.{row_of, operation_numbered, is_known, has_shape}
+use Rattle.call_records.specs.Records.{parts_of, operation_of, op_of, body_of, encoding, Fits, session_start, closing_record, session}
 use Rattle.call_records.specs.declared.reading.TheConstants.{INPUT_MAX, SESSION_MAGIC, SESSION_VERSION}
 use Rattle.call_records.specs.declared.reading.Step.{Step}
 use Rattle.call_records.specs.declared.reading.ReadEnd.{ReadEnd}
 use Rattle.call_records.specs.declared.reading.ReadEnd.TheVariants.{Truncated, Magic, Version, UnknownOp, BodyLong, BodyShape, AfterEnd, InputLong, ReadFault}
 use Rattle.call_records.specs.Reading.{TwoWords, IsCutShort, StartAnswers, Answers}
-use Rattle.call_records.proofs.Refusals.{number_fits, start_words}
-
--- the number whose bytes begin the list
-word : List ℕ → ℕ
-word body = from_le_bytes w32 (take 4 body)
-
--- the number of 64 bits whose bytes begin the list
-long : List ℕ → ℤ
-long body = cast_signed w64 (from_le_bytes w64 (take 8 body))
-
--- a number of 64 bits is read again
-long-again : (z : ℤ) → IsLong z → cast_signed w64 (from_le_bytes w64 (to_le_bytes w64 (cast_unsigned w64 z))) ≡ z
-long-again z fits = rw (from_le_bytes-to_le_bytes_8 (cast_unsigned w64 z) ((Fits-of_z fits).fits)) (to_z-of_z w64 z fits)
-
--- the call of an operation with this body, its tail lying nowhere
-call_for : Operation → List ℕ → Call
-call_for Op.CreateBuffer body = Object (Create New.Buffer)
-call_for Op.DeleteBuffer body = Object (Delete Kind.Buffer (word body))
-call_for Op.IsBuffer body = Object (IsKind Kind.Buffer (word body))
-call_for Op.BindBuffer body = Buffer (BindBuffer (word body) (word (drop 4 body)))
-call_for Op.BufferSize body = Buffer (BufferData (word body) (word (drop 4 body)) (Size (long (drop 8 body))))
-call_for Op.BufferData body =
-    Buffer (BufferData (word body) (word (drop 4 body)) (Bytes (record { ref_ptr = (0, 0); now = drop 8 body })))
-call_for Op.BufferSubData body =
-    Buffer (BufferSubData (word body) (long (drop 4 body)) (record { ref_ptr = (0, 0); now = drop 12 body }))
-call_for Op.GetBufferParameter body = Buffer (GetBufferParameter (word body) (word (drop 4 body)))
-call_for Op.GetError body = Query GetError
-
--- reading a call's body again gives the call
-again : (call : Call) → HasWords call → call_for (operation_of call) (body_of call) ≡ plain call
-unfolding call_for word long le32 le64
-again (Object (Create New.Buffer)) h = refl
-again (Object (Delete Kind.Buffer handle)) h = rw (from_le_bytes-to_le_bytes_4 handle h) refl
-again (Object (IsKind Kind.Buffer handle)) h = rw (from_le_bytes-to_le_bytes_4 handle h) refl
-again (Buffer (BindBuffer target handle)) h =
-    rw (from_le_bytes-to_le_bytes_4 target h.0, from_le_bytes-to_le_bytes_4 handle h.1) refl
-again (Buffer (BufferData target usage (Size size))) h =
-    rw (from_le_bytes-to_le_bytes_4 target h.0, from_le_bytes-to_le_bytes_4 usage h.1, long-again size h.2) refl
-again (Buffer (BufferData target usage (Bytes tail))) h =
-    rw (from_le_bytes-to_le_bytes_4 target h.0, from_le_bytes-to_le_bytes_4 usage h.1) refl
-again (Buffer (BufferSubData target offset tail)) h =
-    rw (from_le_bytes-to_le_bytes_4 target h.0, long-again offset h.1) refl
-again (Buffer (GetBufferParameter target name)) h =
-    rw (from_le_bytes-to_le_bytes_4 target h.0, from_le_bytes-to_le_bytes_4 name h.1) refl
-again (Query GetError) h = refl
-
--- each number is of one operation
-numbered : (operation : Operation) → operation_numbered (number_of operation) ≡ Some operation
-unfolding operation_numbered
-numbered Op.CreateBuffer = refl
-numbered Op.DeleteBuffer = refl
-numbered Op.IsBuffer = refl
-numbered Op.BindBuffer = refl
-numbered Op.BufferSize = refl
-numbered Op.BufferData = refl
-numbered Op.BufferSubData = refl
-numbered Op.GetBufferParameter = refl
-numbered Op.GetError = refl
-
--- a call's encoding and more: its number, its body's length, and then the body and more
-parted : (call : Call) (x : List ℕ) → encoding call ++ x ≡ le32 (op_of call) ++ (le32 (length (body_of call)) ++ (body_of call ++ x))
-parted call x = simp append_assoc
+use Rattle.call_records.proofs.TableLaws.{number_fits, not_close, told, known, shape}
+use Rattle.call_records.proofs.Refusals.{start_words}
 
 -- two calls that are encoded alike, and what follows
 pub record OneCall (a b : Call) (x y : List ℕ) : Type 0 where
-  pub call : plain a ≡ plain b
+  pub call : parts_of a ≡ parts_of b
   pub rest : x ≡ y
 
 -- lists that begin with encodings begin with one call's
 pub encoding-one : (a b : Call) (x y : List ℕ) → Fits a → Fits b → encoding a ++ x ≡ encoding b ++ y → OneCall a b x y
 encoding-one a b x y p q e =
-    let header = le32-one _ _ _ _ (number_fits (operation_of a)) (number_fits (operation_of b)) (sym (parted a x) ∙ e ∙ parted b y) in
-    let size = le32-one _ _ _ _ (omega (arith, p.body)) (omega (arith, q.body)) header.rest in
-    let bodies : body_of a ++ x ≡ body_of b ++ y = size.rest in
-    let body : body_of a ≡ body_of b =
-    sym (take-append_seam (body_of a) x) ∙ ap (take (length (body_of a))) bodies ∙ ap (λ n. take n (body_of b ++ y)) size.word ∙ take-append_seam (body_of b) y in
-    let rest : x ≡ y =
-    sym (drop-append_seam (body_of a) x) ∙ ap (drop (length (body_of a))) bodies ∙ ap (λ n. drop n (body_of b ++ y)) size.word ∙ drop-append_seam (body_of b) y in
-    let one = numbered (operation_of a) in
-    let other = numbered (operation_of b) in
-    let operation : operation_of a ≡ operation_of b = cc (one, other, header.word) in
-    let from_a = again a p.words in
-    let from_b = again b q.words in
-    record {
-      call = sym from_a ∙ ap (λ o. call_for o (body_of a)) operation ∙ ap (call_for (operation_of b)) body ∙ from_b;
-      rest = rest;
-    }
-
--- no call has the closing record's number
-not_close : (operation : Operation) → number_of operation ≡ CLOSE → ⊥
-not_close Op.CreateBuffer e = absurd (omega arith)
-not_close Op.DeleteBuffer e = absurd (omega arith)
-not_close Op.IsBuffer e = absurd (omega arith)
-not_close Op.BindBuffer e = absurd (omega arith)
-not_close Op.BufferSize e = absurd (omega arith)
-not_close Op.BufferData e = absurd (omega arith)
-not_close Op.BufferSubData e = absurd (omega arith)
-not_close Op.GetBufferParameter e = absurd (omega arith)
-not_close Op.GetError e = absurd (omega arith)
+    let one = record-one row_of BODY_MAX operation_numbered (lit< tt) number_fits told (parts_of a) (parts_of b) x y p q e in
+    record { call = one.parts; rest = one.rest }
 
 -- no call's record begins the closing record, nor the other way round
 pub encoding-not_closing : (call : Call) (x y : List ℕ) → encoding call ++ x ≡ closing_record ++ y → ⊥
 unfolding closing_record
 encoding-not_closing call x y e =
     let closed : closing_record ++ y ≡ le32 CLOSE ++ (le32 0 ++ y) = append_assoc (le32 CLOSE) (le32 0) y in
-    let header = le32-one _ _ _ _ (number_fits (operation_of call)) (lit< tt) (sym (parted call x) ∙ e ∙ closed) in
+    let header = le32-one _ _ _ _ (number_fits (operation_of call)) (lit< tt) (sym (record-parted row_of (parts_of call) x) ∙ e ∙ closed) in
     not_close (operation_of call) header.word
-
--- each operation is known
-known : (operation : Operation) → is_known (number_of operation) ≡ true
-unfolding operation_numbered
-known Op.CreateBuffer = refl
-known Op.DeleteBuffer = refl
-known Op.IsBuffer = refl
-known Op.BindBuffer = refl
-known Op.BufferSize = refl
-known Op.BufferData = refl
-known Op.BufferSubData = refl
-known Op.GetBufferParameter = refl
-known Op.GetError = refl
-
--- each call's body has its operation's form
-shape : (call : Call) → has_shape (op_of call) (length (body_of call)) ≡ true
-unfolding operation_numbered
-shape (Object (Create New.Buffer)) = refl
-shape (Object (Delete Kind.Buffer handle)) = let size = length-le32 handle in rw size refl
-shape (Object (IsKind Kind.Buffer handle)) = let size = length-le32 handle in rw size refl
-shape (Buffer (BindBuffer target handle)) =
-    let size : length (le32 target ++ le32 handle) ≡ 8 = simp (length-append, length-le32) in rw size refl
-shape (Buffer (BufferData target usage (Size size))) =
-    let bytes : length (le32 target ++ (le32 usage ++ le64 size)) ≡ 16 = simp (length-append, length-le32, length-le64) in rw bytes refl
-shape (Buffer (BufferData target usage (Bytes tail))) =
-    le-leb 8 _ (omega (arith, length-append (le32 target) (le32 usage ++ tail.now), length-append (le32 usage) tail.now, length-le32 target, length-le32 usage))
-shape (Buffer (BufferSubData target offset tail)) =
-    le-leb 12 _ (omega (arith, length-append (le32 target) (le64 offset ++ tail.now), length-append (le64 offset) tail.now, length-le32 target, length-le64 offset))
-shape (Buffer (GetBufferParameter target name)) =
-    let size : length (le32 target ++ le32 name) ≡ 8 = simp (length-append, length-le32) in rw size refl
-shape (Query GetError) = refl
 
 -- a header that nothing refuses, and at least its whole body
 record Prefix (old : List ℕ) : Type 0 where
@@ -204,9 +73,9 @@ prefix (call ∷ todo) old fits e =
       number_fits = number_fits (operation_of call);
       known = known (operation_of call);
       within = here.body;
-      shape = shape call;
+      shape = shape (operation_of call) (length (body_of call)) ∙ allows-fits row_of BODY_MAX (parts_of call) here;
       whole = omega (arith, length-append (body_of call) rest);
-      is = e ∙ append_assoc (encoding call) (flat_map encoding todo) closing_record ∙ parted call rest;
+      is = e ∙ append_assoc (encoding call) (flat_map encoding todo) closing_record ∙ record-parted row_of (parts_of call) rest;
     }
 
 -- the header that was taken is the one that stands there
@@ -269,7 +138,7 @@ pub record NextRest (todo : List Call) (call : Call) (new : List ℕ) : Type 0 w
   pub first : Call
   pub rest : List Call
   pub parts : todo ≡ first ∷ rest
-  pub same : plain first ≡ plain call
+  pub same : parts_of first ≡ parts_of call
   pub fits : All Fits rest
   pub left : new ≡ flat_map encoding rest ++ closing_record
 

@@ -7,13 +7,13 @@ use Rattle.wire_io.specs.Sources.{WhereTold}
 use Rattle.wire_io.proofs.Known.{taken_twice}
 use Rattle.wire_io.proofs.Told.{told, told_end}
 use Rattle.call_records.specs.declared.operations.Operation.{Operation}
-use Rattle.call_records.specs.declared.operations.Operation.TheVariants.{CreateBuffer, DeleteBuffer, IsBuffer, BindBuffer, BufferSize, BufferData, BufferSubData, GetBufferParameter, GetError}
 use Rattle.call_records.specs.declared.reading.TheConstants.{SESSION_MAGIC, SESSION_VERSION}
 use Rattle.call_records.specs.declared.reading.Head.{Head}
 use Rattle.call_records.specs.declared.reading.Head.TheVariants.{Closing, Record}
 use Rattle.call_records.specs.declared.reading.ReadEnd.{ReadEnd}
 use Rattle.call_records.specs.declared.reading.ReadEnd.TheVariants.{Truncated, Magic, Version, UnknownOp, BodyLong, BodyShape, AfterEnd, InputLong, ReadFault}
-use Rattle.call_records.specs.Operations.{number_of}
+use Rattle.call_records.specs.Operations.{row_of}
+use Rattle.call_records.proofs.TableLaws.{number_fits}
 use Rattle.call_records.specs.Records.{session_start, closing_record}
 use Rattle.call_records.specs.Reading.{TwoWords, IsPartOfBody, StartAnswers, Refuses}
 use Rattle.call_records.specs.Parts.{EndsShort, IsHeader, Judges, TakesHead}
@@ -62,7 +62,7 @@ pub head_taken : (at number len : ℕ) (old new : Option (List ℕ)) (result : R
 unfolding closing_record
 head_taken at number len old new (Ok Closing) e j = rw (j.0, j.1) at e
 head_taken at number len old new (Ok (Record operation size)) e j =
-    let numbered : number_of operation ≡ number = sym j.1.numbered in
+    let numbered : (row_of operation).number ≡ number = sym j.1.numbered in
     rw (numbered, j.0) (e, j.1)
 head_taken at number len old new (Err end) e j = tt
 
@@ -84,24 +84,12 @@ head_refused at number len old new (Err (AfterEnd n)) p q e j = absurd j
 head_refused at number len old new (Err (InputLong n)) p q e j = absurd j
 head_refused at number len old new (Err ReadFault) p q e j = absurd j
 
--- each operation's number is a word
-pub number_fits : (operation : Operation) → number_of operation < 2 ^ 32
-number_fits CreateBuffer = lit< tt
-number_fits DeleteBuffer = lit< tt
-number_fits IsBuffer = lit< tt
-number_fits BindBuffer = lit< tt
-number_fits BufferSize = lit< tt
-number_fits BufferData = lit< tt
-number_fits BufferSubData = lit< tt
-number_fits GetBufferParameter = lit< tt
-number_fits GetError = lit< tt
-
 -- a header and a part of its body
-pub body_part : (len : ℕ) (operation : Operation) (part : List ℕ) → IsHeader (number_of operation) len operation → length part < len
-    → IsPartOfBody ((le32 (number_of operation) ++ le32 len) ++ part)
+pub body_part : (len : ℕ) (operation : Operation) (part : List ℕ) → IsHeader (row_of operation).number len operation → length part < len
+    → IsPartOfBody ((le32 (row_of operation).number ++ le32 len) ++ part)
 body_part len operation part h short = record {
   part = part;
-  header = two_words (number_of operation) len part (number_fits operation) (omega (arith, h.within));
+  header = two_words (row_of operation).number len part (number_fits operation) (omega (arith, h.within));
   known = h.known;
   within = h.within;
   shape = h.shape;
@@ -110,14 +98,14 @@ body_part len operation part h short = record {
 
 -- a call's body that was cut short
 pub body_refused : (at after len : ℕ) (operation : Operation) (old mid new : Option (List ℕ)) (end : ReadEnd) → after ≡ at + 8
-    → (old ≡ prepend_known (le32 (number_of operation) ++ le32 len) mid) × IsHeader (number_of operation) len operation
+    → (old ≡ prepend_known (le32 (row_of operation).number ++ le32 len) mid) × IsHeader (row_of operation).number len operation
     → EndsShort after len mid new end → WhereTold (λ old new. Refuses at old new end) old new
 body_refused at after len operation old mid new (Truncated n) place h s =
-    let header : List ℕ = le32 (number_of operation) ++ le32 len in
-    let here : n ≡ at + length (header ++ s.got) = omega (arith, place, s.place, length-append header s.got, length-append (le32 (number_of operation)) (le32 len), length-le32 (number_of operation), length-le32 len) in
+    let header : List ℕ = le32 (row_of operation).number ++ le32 len in
+    let here : n ≡ at + length (header ++ s.got) = omega (arith, place, s.place, length-append header s.got, length-append (le32 (row_of operation).number) (le32 len), length-le32 (row_of operation).number, length-le32 len) in
     told_end (λ old new. Refuses at old new (Truncated n)) old new _ (taken_twice old mid new header s.got h.0 s.taken) s.ended (inr (body_part len operation s.got h.1 s.short), refl, here)
 body_refused at after len operation old mid new ReadFault place h s =
-    let header : List ℕ = le32 (number_of operation) ++ le32 len in
+    let header : List ℕ = le32 (row_of operation).number ++ le32 len in
     told (λ old new. Refuses at old new ReadFault) old new _ (taken_twice old mid new header s.got h.0 s.taken) (λ rest. record {
       got = header ++ s.got;
       cut = inl (inr (body_part len operation s.got h.1 s.short));

@@ -1,3 +1,6 @@
+pub mod ObjectRecords
+pub mod BufferRecords
+pub mod QueryRecords
 pub mod Operations
 pub mod Records
 pub mod Replies

@@ -8,7 +8,8 @@ use Rattle.call_records.specs.declared.reading.Head as Heads
 use Rattle.call_records.specs.declared.reading.Head.TheVariants.{Closing, Record}
 use Rattle.call_records.specs.declared.reading.ReadEnd.{ReadEnd}
 use Rattle.call_records.specs.declared.reading.ReadEnd.TheVariants.{Truncated, UnknownOp, BodyLong, BodyShape, AfterEnd, ReadFault}
-use Rattle.call_records.specs.Operations.{number_of, layout_of, allows, is_known, has_shape}
+use Rattle.gl_numbers.specs.Fields.{allows}
+use Rattle.call_records.specs.Operations.{row_of, is_known, has_shape}
 use Rattle.call_records.specs.Records.{closing_record}
 
 -- the input ended before a piece of this length was full
@@ -33,11 +34,11 @@ EndsShort at limit old new _ = ⊥
 
 -- a call's header: its operation's number, and a length that is allowed
 pub record IsHeader (number len : ℕ) (operation : Operation) : Type 0 where
-  pub numbered : number ≡ number_of operation
+  pub numbered : number ≡ (row_of operation).number
   pub known : is_known number ≡ true
   pub within : len ≤ BODY_MAX
   pub shape : has_shape number len ≡ true
-  pub allowed : allows (layout_of operation) len ≡ true
+  pub allowed : allows BODY_MAX (row_of operation) len ≡ true
 
 -- how a header is judged
 abbrev pub Judges : ℕ → ℕ → ℕ → Result Heads.Head ReadEnd → Type 0
@@ -51,7 +52,7 @@ Judges at number len (Err _) = ⊥
 -- the header that was taken
 abbrev pub TakesHead : Option (List ℕ) → Option (List ℕ) → Heads.Head → Type 0
 TakesHead old new Closing = old ≡ prepend_known closing_record new
-TakesHead old new (Record operation len) = (old ≡ prepend_known (le32 (number_of operation) ++ le32 len) new) × IsHeader (number_of operation) len operation
+TakesHead old new (Record operation len) = (old ≡ prepend_known (le32 (row_of operation).number ++ le32 len) new) × IsHeader (row_of operation).number len operation
 
 -- what is seen after the closing record
 abbrev pub EndsClosed : ℕ → Option (List ℕ) → Option (List ℕ) → Result (Unit {0}) ReadEnd → Type 0

@@ -1,12 +1,14 @@
-ghost use Rattle.std.specs.Prelude.{◌≡◌, length, true};
-ghost use Rattle.call_records.specs.Records.{operation_of, body_of, encoding, HasWords, Fits};
-ghost use Rattle.call_records.specs.Operations.{allows, layout_of};
+ghost use Rattle.std.specs.Prelude.{◌≡◌, length, true, []};
+ghost use Rattle.gl_numbers.specs.Fields.{allows, body_encoding, ReadsRow};
+ghost use Rattle.call_records.specs.declared.operations.TheConstants.{BODY_MAX};
+ghost use Rattle.call_records.specs.Operations.{row_of};
+ghost use Rattle.call_records.specs.Records.{parts_of, operation_of, body_of, encoding, Fits};
 
-use crate::buffer_calls::{BufferCall, Fill};
-use crate::object_calls::{New, ObjectCall, ObjectKind};
+use crate::buffer_calls::BufferCall;
+use crate::object_calls::ObjectCall;
 use crate::operations::{HEADER_BYTES, Operation};
 use crate::query_calls::QueryCall;
-use gl_numbers::{i64_at, u32_at};
+use gl_numbers::{FieldBytes, Fields};
 
 /// A recorded call (WebGL 1.0 section 5.14) with its arguments as words, by subject.
 /// A tail of bytes borrows the record buffer.
@@ -20,77 +22,69 @@ pub enum Call<'a> {
     Query(QueryCall),
 }
 
-impl Call<'_> {
+impl<'a> Call<'a> {
     /// The bytes of the call's whole record, header and body.
-    #[tactic(auto, using(crate::proofs::Lengths::lengths))]
+    #[tactic(auto, using(crate::proofs::Lengths::length_fits))]
     pub fn size(&self) -> usize
         requires { Fits self.now }
         ensures { result ≡ length (encoding self.now) }
     {
-        HEADER_BYTES
-            + match self {
-                Call::Object(ObjectCall::Create(New::Buffer)) => 0,
-                Call::Object(ObjectCall::Delete { .. } | ObjectCall::IsKind { .. }) => 4,
-                Call::Buffer(BufferCall::BindBuffer { .. }) => 8,
-                Call::Buffer(
-                    BufferCall::BufferData {
-                        fill: Fill::Size(_),
-                        ..
-                    },
-                ) => 16,
-                Call::Buffer(
-                    BufferCall::BufferData {
-                        fill: Fill::Bytes(tail),
-                        ..
-                    },
-                ) => 8 + tail.len(),
-                Call::Buffer(BufferCall::BufferSubData { bytes, .. }) => 12 + bytes.len(),
-                Call::Buffer(BufferCall::GetBufferParameter { .. }) => 8,
-                Call::Query(QueryCall::GetError) => 0,
-            }
+        HEADER_BYTES + self.operation().row().size() + self.tail().len()
     }
-}
 
-/// The call of an operation with this body.
-pub fn call_of(operation: Operation, body: &[u8]) -> Call<'_>
-    requires { allows (layout_of operation) (length body.now) ≡ true }
-    ensures operation { operation_of result ≡ operation }
-    ensures body { body_of result ≡ body.now }
-    ensures words { HasWords result }
-{
-    match operation {
-        Operation::CreateBuffer => Call::Object(ObjectCall::Create(New::Buffer)),
-        Operation::DeleteBuffer => Call::Object(ObjectCall::Delete {
-            kind: ObjectKind::Buffer,
-            handle: u32_at(body),
-        }),
-        Operation::IsBuffer => Call::Object(ObjectCall::IsKind {
-            kind: ObjectKind::Buffer,
-            handle: u32_at(body),
-        }),
-        Operation::BindBuffer => Call::Buffer(BufferCall::BindBuffer {
-            target: u32_at(body),
-            handle: u32_at(&body[4..]),
-        }),
-        Operation::BufferSize => Call::Buffer(BufferCall::BufferData {
-            target: u32_at(body),
-            usage: u32_at(&body[4..]),
-            fill: Fill::Size(i64_at(&body[8..])),
-        }),
-        Operation::BufferData => Call::Buffer(BufferCall::BufferData {
-            target: u32_at(body),
-            usage: u32_at(&body[4..]),
-            fill: Fill::Bytes(&body[8..]),
-        }),
-        Operation::BufferSubData => Call::Buffer(BufferCall::BufferSubData {
-            target: u32_at(body),
-            offset: i64_at(&body[4..]),
-            bytes: &body[12..],
-        }),
-        Operation::GetBufferParameter => Call::Buffer(BufferCall::GetBufferParameter {
-            target: u32_at(body),
-            name: u32_at(&body[4..]),
-        }),
-        Operation::GetError => Call::Query(QueryCall::GetError),
+    /// The call of an operation with this body.
+    #[tactic(auto, using(gl_numbers::proofs::OneRecord::read_fits))]
+    pub fn of(operation: Operation, body: &'a [u8]) -> Self
+        requires { allows BODY_MAX (row_of operation) (length body.now) ≡ true }
+        ensures operation { operation_of result ≡ operation }
+        ensures body { body_of result ≡ body.now }
+        ensures fits { Fits result }
+    {
+        let mut fields = Fields::new(body);
+        Call::read(operation, &mut fields)
+    }
+
+    /// The call of an operation, its fields and its tail read in order.
+    fn read(operation: Operation, fields: &mut Fields<'a>) -> Self
+        requires { allows BODY_MAX (row_of operation) (length fields.old) ≡ true }
+        ensures { ReadsRow row_of operation fields.old fields.new (parts_of result) }
+    {
+        match operation {
+            Operation::Object(operation) => Call::Object(ObjectCall::read(operation, fields)),
+            Operation::Buffer(operation) => Call::Buffer(BufferCall::read(operation, fields)),
+            Operation::Query(operation) => Call::Query(QueryCall::read(operation, fields)),
+        }
+    }
+
+    /// The call's operation.
+    pub fn operation(&self) -> Operation
+        ensures { result ≡ operation_of self.now }
+    {
+        match self {
+            Call::Object(call) => Operation::Object(call.operation()),
+            Call::Buffer(call) => Operation::Buffer(call.operation()),
+            Call::Query(call) => Operation::Query(call.operation()),
+        }
+    }
+
+    /// The bytes of the call's fields, in order.
+    pub fn fields(&self) -> FieldBytes
+        ensures { result ≡ body_encoding (parts_of self.now).values [] }
+    {
+        match self {
+            Call::Object(call) => call.fields(),
+            Call::Buffer(call) => call.fields(),
+            Call::Query(call) => call.fields(),
+        }
+    }
+
+    /// The bytes that follow the call's fields, if any do.
+    pub fn tail(&self) -> &'a [u8]
+        ensures { result.now ≡ (parts_of self.now).tail }
+    {
+        match self {
+            Call::Object(_) | Call::Query(_) => &[],
+            Call::Buffer(call) => call.tail(),
+        }
     }
 }

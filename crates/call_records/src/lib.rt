@@ -18,14 +18,11 @@ mod reply_tests;
 mod tests;
 mod writing;
 
-pub use buffer_calls::{BufferCall, Fill};
+pub use buffer_calls::{BufferCall, BufferOperation, Fill};
 pub use calls::Call;
-pub use object_calls::{New, ObjectCall, ObjectKind};
-pub use operations::{
-    BIND_BUFFER, BODY_MAX, BUFFER_DATA, BUFFER_SIZE, BUFFER_SUB_DATA, CLOSE, CREATE_BUFFER,
-    DELETE_BUFFER, GET_BUFFER_PARAMETER, GET_ERROR, HEADER_BYTES, IS_BUFFER, Layout, Operation,
-};
-pub use query_calls::QueryCall;
+pub use object_calls::{New, ObjectCall, ObjectKind, ObjectOperation};
+pub use operations::{BODY_MAX, CLOSE, HEADER_BYTES, Operation};
+pub use query_calls::{QueryCall, QueryOperation};
 pub use reading::{
     INPUT_MAX, ReadEnd, SESSION_MAGIC, SESSION_VERSION, Step, read_call, read_start,
 };

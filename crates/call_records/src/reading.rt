@@ -2,12 +2,13 @@ ghost use Rattle.std.specs.Prelude.{◌≡◌, ◌+◌, ◌^◌, ◌<◌, ◌≤
 ghost use Rattle.std.specs.Io.KnownBytes.{prepend_known};
 ghost use Rattle.gl_numbers.specs.Bytes.{le32};
 ghost use Rattle.wire_io.specs.Sources.{WhereTold};
-ghost use Rattle.call_records.specs.Operations.{allows, layout_of};
-ghost use Rattle.call_records.specs.Records.{session_start, operation_of, body_of, HasWords};
+ghost use Rattle.gl_numbers.specs.Fields.{allows};
+ghost use Rattle.call_records.specs.Operations.{row_of};
+ghost use Rattle.call_records.specs.Records.{session_start, operation_of, body_of, Fits};
 ghost use Rattle.call_records.specs.Reading.{StartAnswers, Answers, Refuses, ReadCause, step_encoding, HasFits, IsStartEnd, IsRecordEnd, HasRoom};
 ghost use Rattle.call_records.specs.Parts.{EndsShort, Judges, TakesHead, EndsClosed};
 
-use crate::calls::{Call, call_of};
+use crate::calls::Call;
 use crate::operations::{BODY_MAX, CLOSE, HEADER_BYTES, Operation};
 use crate::record_buf::RecordBuf;
 use gl_numbers::u32_at;
@@ -105,7 +106,9 @@ fn judge(number: u32, len: usize, at: u64) -> Result<Head, ReadEnd>
     }
     match operation {
         None if len == 0 => Ok(Head::Closing),
-        Some(operation) if operation.layout().allows(len) => Ok(Head::Record(operation, len)),
+        Some(operation) if operation.row().allows(BODY_MAX, len) => Ok(Head::Record(
+            operation, len,
+        )),
         _ => Err(ReadEnd::BodyShape(at)),
     }
 }
@@ -135,17 +138,17 @@ fn read_body<'b, S: Source>(
 ) -> Result<Call<'b>, ReadEnd>
     requires place { at ≤ 2 ^ 63 }
     requires within { len ≤ BODY_MAX }
-    requires shape { allows (layout_of operation) len ≡ true }
+    requires shape { allows BODY_MAX (row_of operation) len ≡ true }
     ensures operation { IfOk result (λ call. operation_of call ≡ operation) }
     ensures len { IfOk result (λ call. length (body_of call) ≡ len) }
-    ensures words { IfOk result HasWords }
+    ensures fits { IfOk result Fits }
     ensures taken { IfOk result (λ call. S.left input.old ≡ prepend_known (body_of call) (S.left input.new)) }
     ensures short { IfErr result (EndsShort at len (S.left input.old) (S.left input.new)) }
     ensures cause { ReadCause (S.faults input.old) (S.faults input.new) result }
 {
     let body = &mut buf.bytes_mut()[..len];
     match fill(input, at, body) {
-        Ok(()) => Ok(call_of(operation, body)),
+        Ok(()) => Ok(Call::of(operation, body)),
         Err(end) => Err(end),
     }
 }

@@ -36,7 +36,8 @@ impl RecordBuf {
 
     /// All of its bytes.
     pub fn bytes_mut(&mut self) -> &mut [u8]
-        ensures { length result.now ≡ BODY_MAX }
+        ensures value { result.now ≡ self.old }
+        ensures len { length result.now ≡ BODY_MAX }
     {
         self.bytes.as_mut_slice()
     }

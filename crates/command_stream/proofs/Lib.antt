@@ -1,5 +1,10 @@
-pub mod Allowed
+pub mod Numbered
+pub mod ObjectRows
+pub mod BufferRows
+pub mod Table
 pub mod OneEncoding
 pub mod Pieces
 pub mod Decoding
 pub mod OneAnswer
+pub mod Heads
+pub mod Alike

@@ -1,7 +1,8 @@
 -- What a decoder stands for: whether it has taken the stream's header, and what it has taken of what comes next.
-use Rattle.std.specs.Prelude.{◌≡◌, ℕ, ◌+◌, ◌-◌, ◌<◌, ◌≤◌, ◌^◌, ◌⊎◌, Bool, false, true, List, [], ◌++◌, length}
+use Rattle.std.specs.Prelude.{◌≡◌, ℕ, ◌+◌, ◌-◌, ◌<◌, ◌≤◌, ◌^◌, ◌⊎◌, Bool, false, true, List, [], ◌++◌, length, take}
 use Rattle.gl_numbers.specs.Bytes.{le32}
 use Rattle.command_stream.specs.declared.operation.TheConstants.{START_BYTES, HEADER_BYTES}
+use Rattle.command_stream.specs.declared.taking.TheConstants.{COMMAND_MAX}
 use Rattle.command_stream.specs.declared.operation.Operation.{Operation}
 use Rattle.command_stream.specs.Operations.{number_of, allows, has_shape}
 use Rattle.command_stream.specs.Commands.{stream_start}
@@ -70,3 +71,10 @@ IsCounted true begun taken = START_BYTES + length begun ≤ taken
 abbrev pub command_at : Bool → List ℕ → ℕ → ℕ
 command_at false begun taken = START_BYTES
 command_at true begun taken = taken - length begun
+
+-- what a decoder keeps of what it has taken: room for the longest command, and in it what was begun
+pub record IsDecoder (started : Bool) (items : List ℕ) (held taken : ℕ) : Type 0 where
+  pub room : length items ≡ COMMAND_MAX
+  pub within : held ≤ COMMAND_MAX
+  pub part : IsPart started (take held items)
+  pub counted : IsCounted started (take held items) taken

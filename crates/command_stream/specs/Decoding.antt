@@ -4,8 +4,7 @@ use Rattle.std.specs.List.{All, flat_map}
 use Rattle.command_stream.specs.declared.command.Command.{Command}
 use Rattle.command_stream.specs.declared.bad.Bad.{Bad}
 use Rattle.command_stream.specs.declared.bad.Bad.TheVariants as bad
-use Rattle.command_stream.specs.Commands.{command_encoding}
-use Rattle.command_stream.specs.Plain.{Fits}
+use Rattle.command_stream.specs.Commands.{command_encoding, Fits}
 use Rattle.command_stream.specs.DecoderState.{DecoderState, IsPart, start_taken, HasBadStart, HasBadCommand, command_at}
 
 -- the bytes of a command that was found, if any
@@ -21,7 +20,8 @@ EndsAt piece n new (Some c) = Fits c × (new.started ≡ true) × (new.begun ≡
 -- this many bytes of a piece are taken, and with them this command, if any
 pub record Takes (old : DecoderState) (piece : List ℕ) (new : DecoderState) (n : ℕ) (found : Option Command) : Type 0 where
   pub within : n ≤ length piece
-  pub bytes : start_taken old.started ++ (old.begun ++ take n piece) ≡ start_taken new.started ++ (found_encoding found ++ new.begun)
+  pub bytes : start_taken old.started ++ (old.begun ++ take n piece)
+      ≡ start_taken new.started ++ (found_encoding found ++ new.begun)
   pub rest : IsPart new.started new.begun
   pub ends : EndsAt piece n new found
   pub counted : new.taken ≡ old.taken + n

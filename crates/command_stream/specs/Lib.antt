@@ -1,6 +1,8 @@
+pub mod Rows
+pub mod ObjectCommands
+pub mod BufferCommands
 pub mod Operations
 pub mod Commands
-pub mod Plain
 pub mod DecoderState
 pub mod Decoding
 pub mod Taking

@@ -14,11 +14,21 @@ use Rattle.command_stream.specs.DecoderState.{IsPart, start_taken, HasBadStart, 
 -- the first eight bytes of two lists one after the other, if there are so many
 abbrev pub AreFirst : List ℕ → List ℕ → Option (List ℕ) → Type 0
 AreFirst begun piece None = length begun + length piece < HEADER_BYTES
-AreFirst begun piece (Some first) = (begun ++ piece ≡ first ++ drop HEADER_BYTES (begun ++ piece)) × (HEADER_BYTES ≤ length begun + length piece)
+AreFirst begun piece (Some first) =
+    (begun ++ piece ≡ first ++ drop HEADER_BYTES (begun ++ piece)) × (HEADER_BYTES ≤ length begun + length piece)
+
+-- a command's header that is refused
+pub record IsRefusedHeader (header : List ℕ) : Type 0 where
+  pub number : ℕ
+  pub len : ℕ
+  pub number_fits : number < 2 ^ 32
+  pub len_fits : len < 2 ^ 32
+  pub are : header ≡ le32 number ++ le32 len
+  pub refused : has_shape number len ≡ false
 
 -- how a command's header is judged
 abbrev pub Judges : List ℕ → Option (Operation × ℕ) → Type 0
-Judges header None = (number : ℕ) × (len : ℕ) × (number < 2 ^ 32) × (len < 2 ^ 32) × (header ≡ le32 number ++ le32 len) × (has_shape number len ≡ false)
+Judges header None = IsRefusedHeader header
 Judges header (Some (operation, len)) = (header ≡ le32 (number_of operation) ++ le32 len) × (allows operation len ≡ true)
 
 -- a whole command's bytes
@@ -27,21 +37,29 @@ pub record IsWhole (operation : Operation) (bytes : List ℕ) : Type 0 where
   pub are : bytes ≡ le32 (number_of operation) ++ (le32 (length (drop HEADER_BYTES bytes)) ++ drop HEADER_BYTES bytes)
   pub allowed : allows operation (length (drop HEADER_BYTES bytes)) ≡ true
 
+-- all of a piece is taken, and no command ends in it
+pub record TakesPart (started : Bool) (begun piece : List ℕ) (now_started : Bool) (now_begun : List ℕ) : Type 0 where
+  pub bytes : start_taken started ++ (begun ++ piece) ≡ start_taken now_started ++ now_begun
+  pub rest : IsPart now_started now_begun
+
+-- so many bytes of a piece are taken, up to the end of this command
+pub record TakesWhole (started : Bool) (begun piece command : List ℕ) (operation : Operation) (taken : ℕ) : Type 0 where
+  pub within : taken ≤ length piece
+  pub some : 0 < taken
+  pub bytes : start_taken started ++ (begun ++ take taken piece) ≡ stream_start ++ command
+  pub whole : IsWhole operation command
+
 -- what is taken of a piece after the bytes that are held, whose first ones were begun
 abbrev pub TakesIn : Bool → List ℕ → ℕ → List ℕ → List ℕ → Takens.Taken → Type 0
 TakesIn started old held piece new OtherStart = (new ≡ old) × HasBadStart started (take held old) piece
 TakesIn started old held piece new OtherCommand = (new ≡ old) × HasBadCommand started (take held old) piece
 TakesIn started old held piece new (Part now_started now_held) =
-    (length new ≡ length old) × (now_held ≤ length new)
-    × (start_taken started ++ (take held old ++ piece) ≡ start_taken now_started ++ take now_held new)
-    × IsPart now_started (take now_held new)
-TakesIn started old held piece new (Whole operation n size) =
-    (length new ≡ length old) × (size ≤ length new) × (n ≤ length piece) × (0 < n)
-    × (start_taken started ++ (take held old ++ take n piece) ≡ stream_start ++ take size new)
-    × IsWhole operation (take size new)
+    (length new ≡ length old) × (now_held ≤ length new) × TakesPart started (take held old) piece now_started (take now_held new)
+TakesIn started old held piece new (Whole operation taken size) =
+    (length new ≡ length old) × (size ≤ length new) × TakesWhole started (take held old) piece (take size new) operation taken
 
 -- what a piece brings of the stream's header
 abbrev pub StartsIn : List ℕ → List ℕ → Starts.Start → Type 0
-StartsIn begun piece start.Other = (first : List ℕ) × (rest : List ℕ) × (begun ++ piece ≡ first ++ rest) × (length first ≡ START_BYTES) × (first ≡ stream_start → ⊥)
+StartsIn begun piece start.Other = HasBadStart false begun piece
 StartsIn begun piece start.Unfinished = length begun + length piece < START_BYTES
 StartsIn begun piece (start.Finished n) = (n ≤ length piece) × (begun ++ take n piece ≡ stream_start)

@@ -1,12 +1,11 @@
 ghost use Rattle.std.specs.Prelude.{◌≡◌, length, true};
-ghost use Rattle.command_stream.specs.Operations.{allows};
-ghost use Rattle.command_stream.specs.Commands.{operation_of, body_of};
-ghost use Rattle.command_stream.specs.Plain.{HasWords};
+ghost use Rattle.gl_numbers.specs.Fields.{FitsLetters, FitsTail};
+ghost use Rattle.command_stream.specs.Operations.{row_of, allows};
+ghost use Rattle.command_stream.specs.Commands.{parts_of, operation_of, body_of};
 
-use crate::buffer_commands::BufferCommand;
-use crate::object_commands::ObjectCommand;
+use crate::buffer_commands::{BufferCommand, buffer_command};
+use crate::object_commands::{ObjectCommand, object_command};
 use crate::operation::Operation;
-use gl_numbers::u32_at;
 
 /// A command for the driver (OpenGL ES 2.0), by its subject. Names of objects are the driver's.
 #[derive(Clone, Copy, Debug, PartialEq, Eq)]
@@ -22,24 +21,11 @@ pub fn command_of(operation: Operation, body: &[u8]) -> Command<'_>
     requires { allows operation (length body.now) ≡ true }
     ensures operation { operation_of result ≡ operation }
     ensures body { body_of result ≡ body.now }
-    ensures words { HasWords result }
+    ensures values { FitsLetters (row_of operation).letters (parts_of result).values }
+    ensures tail { FitsTail (row_of operation).tail (parts_of result).tail }
 {
     match operation {
-        Operation::MakeBuffer => Command::Object(ObjectCommand::MakeBuffer(u32_at(body))),
-        Operation::DropBuffer => Command::Object(ObjectCommand::DropBuffer(u32_at(body))),
-        Operation::BindBuffer => Command::Buffer(BufferCommand::BindBuffer {
-            target: u32_at(body),
-            name: u32_at(&body[4..]),
-        }),
-        Operation::BufferSize => Command::Buffer(BufferCommand::BufferSize {
-            target: u32_at(body),
-            usage: u32_at(&body[4..]),
-            size: u32_at(&body[8..]),
-        }),
-        Operation::BufferBytes => Command::Buffer(BufferCommand::BufferBytes {
-            target: u32_at(body),
-            offset: u32_at(&body[4..]),
-            bytes: &body[8..],
-        }),
+        Operation::Object(operation) => Command::Object(object_command(operation, body)),
+        Operation::Buffer(operation) => Command::Buffer(buffer_command(operation, body)),
     }
 }

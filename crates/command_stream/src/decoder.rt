@@ -24,15 +24,14 @@ pub struct Decoder {
 }
 
 impl Model for Decoder {
-    ghost use Rattle.std.specs.Prelude.{◌≡◌, ◌≤◌, take, length};
-    ghost use Rattle.command_stream.specs.declared.taking.TheConstants.{COMMAND_MAX};
-    ghost use Rattle.command_stream.specs.DecoderState.{DecoderState, IsPart, IsCounted};
+    ghost use Rattle.std.specs.Prelude.{take};
+    ghost use Rattle.command_stream.specs.DecoderState.{DecoderState, IsDecoder};
 
     ghost Value = { DecoderState };
 
     ghost view = { λ d. record { started = d.started; begun = take d.held d.bytes.items; taken = d.taken } };
 
-    ghost invariant = { λ d. (length d.bytes.items ≡ COMMAND_MAX) × (d.held ≤ COMMAND_MAX) × IsPart d.started (take d.held d.bytes.items) × IsCounted d.started (take d.held d.bytes.items) d.taken };
+    ghost invariant = { λ d. IsDecoder d.started d.bytes.items d.held d.taken };
 }
 
 impl Decoder {
@@ -70,29 +69,34 @@ impl Decoder {
     }
 
     /// Takes the piece's bytes up to the end of the next whole command, or all of them where no command ends in
-    /// them, and answers how many, and the command. Bad comes exactly where a whole header is refused; then
+    /// them, and returns how many, and the command. Bad comes exactly where a whole header is refused; then
     /// nothing is taken.
     pub fn feed<'d>(&'d mut self, piece: &[u8]) -> Result<(usize, Option<Command<'d>>), Bad>
         requires { self.old.taken < 2 ^ 63 }
         ensures within { IfOk result (λ found. found.0 ≤ length piece.now) }
         ensures progress { IfOk result (λ found. 0 < length piece.now → 0 < found.0) }
-        ensures* after { sem 𝓛 (follows_so the_row the_row self.entry.ghost_name none (λ _ _. ⊤) (λ new. Feeds self.old piece.now new result)) }
+        ensures* after { sem 𝓛 (follows_so the_row the_row self.entry.ghost_name none (λ _ _. ⊤)
+            (λ new. Feeds self.old piece.now new result)) }
     {
         match take_in(self.bytes.as_mut_slice(), self.started, self.held, piece) {
             Taken::OtherStart => Err(Bad::Version),
             Taken::OtherCommand => Err(Bad::Command(self.command_at())),
-            Taken::Part(started, held) => {
+            Taken::Part { started, held } => {
                 self.started = started;
                 self.held = held;
                 self.taken += piece.len() as u64;
                 Ok((piece.len(), None))
             }
-            Taken::Whole(operation, n, size) => {
+            Taken::Whole {
+                operation,
+                taken,
+                size,
+            } => {
                 self.started = true;
                 self.held = 0;
-                self.taken += n as u64;
+                self.taken += taken as u64;
                 let whole = &self.bytes.as_slice()[..size];
-                Ok((n, Some(command_of(operation, &whole[HEADER_BYTES..]))))
+                Ok((taken, Some(command_of(operation, &whole[HEADER_BYTES..]))))
             }
         }
     }

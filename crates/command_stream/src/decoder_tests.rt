@@ -1,10 +1,10 @@
 ghost use Rattle.std.specs.Prelude.{◌+◌, ◌<◌, ◌≤◌, ◌^◌, length};
 
-use crate::tests::STREAM;
+use crate::tests::stream;
 use crate::{Bad, BufferCommand, Command, Decoder, ObjectCommand};
 use std::test::Fail;
 
-/// The commands of `STREAM`.
+/// The commands of the stream that `stream` gives.
 const COMMANDS: [Command<'static>; 5] = [
     Command::Object(ObjectCommand::MakeBuffer(3)),
     Command::Buffer(BufferCommand::BindBuffer {
@@ -69,10 +69,11 @@ fn count_equal(
 
 #[test]
 fn pieces_of_any_size_give_the_same_commands(rt: HostRuntime) -> Result<(), Fail> {
+    let stream = stream(rt.alloc())?;
     for size in [1, 3, 5, 7, 13, 86] {
         let mut decoder = Decoder::new(rt.alloc())?;
         assert_eq!(rt;
-            count_equal(&mut decoder, &STREAM, size.max(1), &COMMANDS),
+            count_equal(&mut decoder, &stream, size.max(1), &COMMANDS),
             Ok(5),
             "pieces of {size}"
         );
@@ -83,18 +84,19 @@ fn pieces_of_any_size_give_the_same_commands(rt: HostRuntime) -> Result<(), Fail
 
 #[test]
 fn one_piece_is_taken_command_by_command(rt: HostRuntime) -> Result<(), Fail> {
+    let stream = stream(rt.alloc())?;
     let mut decoder = Decoder::new(rt.alloc())?;
     assert!(rt;
         answers(
             &mut decoder,
-            &STREAM,
+            &stream,
             Ok((20, Some(Command::Object(ObjectCommand::MakeBuffer(3)))))
         )
     );
     assert!(rt;
         answers(
             &mut decoder,
-            &STREAM[20..],
+            &stream[20..],
             Ok((
                 16,
                 Some(Command::Buffer(BufferCommand::BindBuffer {
@@ -104,12 +106,12 @@ fn one_piece_is_taken_command_by_command(rt: HostRuntime) -> Result<(), Fail> {
             ))
         )
     );
-    assert!(rt; answers(&mut decoder, &STREAM[36..38], Ok((2, None))));
+    assert!(rt; answers(&mut decoder, &stream[36..38], Ok((2, None))));
     assert!(rt; answers(&mut decoder, &[], Ok((0, None))));
     assert!(rt;
         answers(
             &mut decoder,
-            &STREAM[38..],
+            &stream[38..],
             Ok((
                 18,
                 Some(Command::Buffer(BufferCommand::BufferSize {
@@ -123,7 +125,7 @@ fn one_piece_is_taken_command_by_command(rt: HostRuntime) -> Result<(), Fail> {
     assert!(rt;
         answers(
             &mut decoder,
-            &STREAM[56..],
+            &stream[56..],
             Ok((
                 18,
                 Some(Command::Buffer(BufferCommand::BufferBytes {
@@ -137,7 +139,7 @@ fn one_piece_is_taken_command_by_command(rt: HostRuntime) -> Result<(), Fail> {
     assert!(rt;
         answers(
             &mut decoder,
-            &STREAM[74..],
+            &stream[74..],
             Ok((12, Some(Command::Object(ObjectCommand::DropBuffer(3)))))
         )
     );
@@ -146,6 +148,7 @@ fn one_piece_is_taken_command_by_command(rt: HostRuntime) -> Result<(), Fail> {
 
 #[test]
 fn it_is_idle_between_two_commands(rt: HostRuntime) -> Result<(), Fail> {
+    let stream = stream(rt.alloc())?;
     for (taken, found, idle) in [
         (0, 0, false),
         (1, 0, false),
@@ -159,7 +162,7 @@ fn it_is_idle_between_two_commands(rt: HostRuntime) -> Result<(), Fail> {
         (74, 4, true),
     ] {
         let mut decoder = Decoder::new(rt.alloc())?;
-        let prefix = STREAM.get(..taken).ok_or("prefix")?;
+        let prefix = stream.get(..taken).ok_or("prefix")?;
         assert_eq!(rt;
             count_equal(&mut decoder, prefix, 3, &COMMANDS),
             Ok(found),
@@ -172,6 +175,7 @@ fn it_is_idle_between_two_commands(rt: HostRuntime) -> Result<(), Fail> {
 
 #[test]
 fn each_refused_header_is_told_at_its_offset(rt: HostRuntime) -> Result<(), Fail> {
+    let stream = stream(rt.alloc())?;
     let cases: [([u8; 8], usize, Bad); 14] = [
         ([0x45, 0x53, 0x43, 0x54, 1, 0, 0, 0], 0, Bad::Version),
         ([0x57, 0x47, 0x4C, 0x52, 1, 0, 0, 0], 0, Bad::Version),
@@ -194,7 +198,7 @@ fn each_refused_header_is_told_at_its_offset(rt: HostRuntime) -> Result<(), Fail
     ];
     for (header, at, bad) in cases {
         let mut decoder = Decoder::new(rt.alloc())?;
-        let prefix = STREAM.get(..at).ok_or("prefix")?;
+        let prefix = stream.get(..at).ok_or("prefix")?;
         assert!(rt;
             count_equal(&mut decoder, prefix, 64, &COMMANDS).is_ok(),
             "{bad:?}"
@@ -209,8 +213,9 @@ fn each_refused_header_is_told_at_its_offset(rt: HostRuntime) -> Result<(), Fail
 
 #[test]
 fn a_refused_header_changes_nothing(rt: HostRuntime) -> Result<(), Fail> {
+    let stream = stream(rt.alloc())?;
     let mut decoder = Decoder::new(rt.alloc())?;
-    assert!(rt; answers(&mut decoder, &STREAM[..3], Ok((3, None))));
+    assert!(rt; answers(&mut decoder, &stream[..3], Ok((3, None))));
     assert!(rt; answers(&mut decoder, &[0x54, 1, 0, 0, 0], Err(Bad::Version)));
     assert!(rt;
         answers(
@@ -219,20 +224,20 @@ fn a_refused_header_changes_nothing(rt: HostRuntime) -> Result<(), Fail> {
             Err(Bad::Command(8))
         )
     );
-    assert!(rt; answers(&mut decoder, &STREAM[3..18], Ok((15, None))));
+    assert!(rt; answers(&mut decoder, &stream[3..18], Ok((15, None))));
     assert!(rt;
         answers(
             &mut decoder,
-            &STREAM[18..],
+            &stream[18..],
             Ok((2, Some(Command::Object(ObjectCommand::MakeBuffer(3)))))
         )
     );
-    assert!(rt; answers(&mut decoder, &STREAM[20..22], Ok((2, None))));
+    assert!(rt; answers(&mut decoder, &stream[20..22], Ok((2, None))));
     assert!(rt; answers(&mut decoder, &[0, 0, 9, 0, 0, 0], Err(Bad::Command(20))));
     assert!(rt;
         answers(
             &mut decoder,
-            &STREAM[22..],
+            &stream[22..],
             Ok((
                 14,
                 Some(Command::Buffer(BufferCommand::BindBuffer {
@@ -247,6 +252,7 @@ fn a_refused_header_changes_nothing(rt: HostRuntime) -> Result<(), Fail> {
 
 #[test]
 fn the_longest_body_is_taken(rt: HostRuntime) -> Result<(), Fail> {
+    let stream = stream(rt.alloc())?;
     let mut decoder = Decoder::new(rt.alloc())?;
     let header = [13, 0, 0, 0, 0x40, 0, 0, 1, 0x92, 0x88, 0, 0, 0, 0, 0, 0];
     let data = vec![in rt.alloc(); 7; 16_777_272]?;
@@ -255,7 +261,7 @@ fn the_longest_body_is_taken(rt: HostRuntime) -> Result<(), Fail> {
         offset: 0,
         bytes: data.as_slice(),
     });
-    assert!(rt; answers(&mut decoder, &STREAM[..8], Ok((8, None))));
+    assert!(rt; answers(&mut decoder, &stream[..8], Ok((8, None))));
     assert!(rt; answers(&mut decoder, &header, Ok((16, None))));
     assert!(rt;
         answers(

@@ -10,7 +10,7 @@ mod command;
 mod decoder;
 mod object_commands;
 mod operation;
-mod prefixes;
+mod row;
 mod taking;
 mod write;
 
@@ -19,10 +19,7 @@ pub use buffer_commands::BufferCommand;
 pub use command::Command;
 pub use decoder::Decoder;
 pub use object_commands::ObjectCommand;
-pub use operation::{
-    BIND_BUFFER, BODY_MAX, BUFFER_BYTES, BUFFER_SIZE, DROP_BUFFER, HEADER_BYTES, MAKE_BUFFER,
-    Operation, START_BYTES, STREAM_VERSION,
-};
+pub use operation::{BODY_MAX, HEADER_BYTES, START_BYTES, STREAM_MAGIC, STREAM_VERSION};
 pub use write::{write_command, write_start};
 
 #[cfg(test)]

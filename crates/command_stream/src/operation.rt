@@ -1,106 +1,68 @@
 ghost use Rattle.std.specs.Prelude.{◌≡◌, IfSome};
-ghost use Rattle.command_stream.specs.Operations.{number_of, field_bytes_of, ends_in_bytes, operation_numbered, allows};
+ghost use Rattle.command_stream.specs.Rows.{IsRow};
+ghost use Rattle.command_stream.specs.Operations.{row_of, number_of, operation_numbered, allows};
+
+use crate::buffer_commands::BufferOperation;
+use crate::object_commands::ObjectOperation;
+use crate::row::Row;
+
+/// The bytes that a stream begins with.
+pub const STREAM_MAGIC: [u8; 4] = [b'E', b'S', b'C', b'S'];
 
 /// The version that a stream's header names.
 pub const STREAM_VERSION: u32 = 1;
 
-/// The bytes of the stream's header: `ESCS`, and the version.
+/// The bytes of the stream's header: the magic, and the version.
 pub const START_BYTES: usize = 8;
 
 /// The bytes of a command's header: its operation, and its body's length in bytes.
 pub const HEADER_BYTES: usize = 8;
 
-/// A command's body has at most this many bytes: 16 MiB of data, and 64 bytes for the words before them.
+/// A command's body has at most this many bytes: 16 MiB of data, and 64 bytes for the fields before them.
 pub const BODY_MAX: u32 = 16_777_280;
 
-/// The number of `Operation::MakeBuffer`.
-pub const MAKE_BUFFER: u32 = 1;
-/// The number of `Operation::DropBuffer`.
-pub const DROP_BUFFER: u32 = 6;
-/// The number of `Operation::BindBuffer`.
-pub const BIND_BUFFER: u32 = 11;
-/// The number of `Operation::BufferSize`.
-pub const BUFFER_SIZE: u32 = 12;
-/// The number of `Operation::BufferBytes`.
-pub const BUFFER_BYTES: u32 = 13;
-
-/// The operations of the stream: what a command asks of the driver.
-#[derive(Clone, Copy, Debug, PartialEq, Eq)]
+/// What a command asks of the driver, by its subject.
+#[derive(Clone, Copy)]
 pub enum Operation {
-    /// A buffer's name comes into use: one word, the name (OpenGL ES 2.0 section 2.9).
-    MakeBuffer,
-    /// DeleteBuffers of one name: one word, the name (section 2.9).
-    DropBuffer,
-    /// BindBuffer: two words, the target and the name, 0 for none (section 2.9).
-    BindBuffer,
-    /// BufferData of zero bytes: three words, the target, the usage and the size in bytes (section 2.9).
-    BufferSize,
-    /// BufferSubData: two words, the target and the offset in bytes, and then the bytes (section 2.9).
-    BufferBytes,
+    /// An operation on objects.
+    Object(ObjectOperation),
+    /// An operation on buffers.
+    Buffer(BufferOperation),
 }
 
 impl Operation {
+    /// The operation's row of the table.
+    fn row(self) -> Row
+        ensures { IsRow result (row_of self) }
+    {
+        match self {
+            Operation::Object(operation) => operation.row(),
+            Operation::Buffer(operation) => operation.row(),
+        }
+    }
+
     /// The number that stands for the operation in a command's header.
     pub fn number(self) -> u32
         ensures { result ≡ number_of self }
     {
-        match self {
-            Operation::MakeBuffer => MAKE_BUFFER,
-            Operation::DropBuffer => DROP_BUFFER,
-            Operation::BindBuffer => BIND_BUFFER,
-            Operation::BufferSize => BUFFER_SIZE,
-            Operation::BufferBytes => BUFFER_BYTES,
-        }
-    }
-
-    /// How many bytes of the body are words: all of it, or what stands before its bytes.
-    pub fn field_bytes(self) -> u32
-        ensures { result ≡ field_bytes_of self }
-    {
-        match self {
-            Operation::MakeBuffer => 4,
-            Operation::DropBuffer => 4,
-            Operation::BindBuffer => 8,
-            Operation::BufferSize => 12,
-            Operation::BufferBytes => 8,
-        }
-    }
-
-    /// Whether bytes follow the words of the body.
-    pub fn has_bytes(self) -> bool
-        ensures { result ≡ ends_in_bytes self }
-    {
-        match self {
-            Operation::BufferBytes => true,
-            _ => false,
-        }
+        self.row().number
     }
 
     /// The operation of this number; None exactly where the table has none.
-    #[tactic(auto, unfolding(crate::specs::Operations::operation_numbered))]
-    pub fn from_u32(n: u32) -> Option<Self>
+    pub fn numbered(n: u32) -> Option<Self>
         ensures found { result ≡ operation_numbered n }
         ensures number { IfSome result (λ operation. number_of operation ≡ n) }
     {
-        match n {
-            MAKE_BUFFER => Some(Operation::MakeBuffer),
-            DROP_BUFFER => Some(Operation::DropBuffer),
-            BIND_BUFFER => Some(Operation::BindBuffer),
-            BUFFER_SIZE => Some(Operation::BufferSize),
-            BUFFER_BYTES => Some(Operation::BufferBytes),
-            _ => None,
+        match ObjectOperation::numbered(n) {
+            Some(operation) => Some(Operation::Object(operation)),
+            None => BufferOperation::numbered(n).map(Operation::Buffer),
         }
     }
 
-    /// Whether a body of `len` bytes is one of this operation's: its words and nothing else, or its words and
-    /// then bytes, at most `BODY_MAX` in all.
+    /// Whether a body of `len` bytes is one of this operation's.
     pub fn allows(self, len: u32) -> bool
         ensures { result ≡ allows self len }
     {
-        if self.has_bytes() {
-            self.field_bytes() <= len && len <= BODY_MAX
-        } else {
-            len == self.field_bytes()
-        }
+        self.row().allows(len)
     }
 }

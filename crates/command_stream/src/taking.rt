@@ -3,14 +3,14 @@ ghost use Rattle.command_stream.specs.DecoderState.{IsPart};
 ghost use Rattle.command_stream.specs.Taking.{AreFirst, Judges, StartsIn, TakesIn};
 
 use crate::operation::{HEADER_BYTES, Operation, START_BYTES};
-use crate::prefixes::start;
+use crate::write::start;
 use gl_numbers::u32_at;
 
 /// The bytes of the longest command, header and body.
 pub const COMMAND_MAX: usize = 16_777_288;
 
 /// What a piece brings of the stream's header.
-#[derive(Clone, Copy, Debug)]
+#[derive(Clone, Copy)]
 pub enum Start {
     /// It isn't whole.
     Unfinished,
@@ -21,13 +21,20 @@ pub enum Start {
 }
 
 /// What was taken of a piece.
-#[derive(Clone, Copy, Debug)]
+#[derive(Clone, Copy)]
 pub enum Taken {
     /// All of it, without the end of a command: whether the stream's header is whole, and how many bytes are
     /// held.
-    Part(bool, usize),
+    Part {
+        started: bool,
+        held: usize,
+    },
     /// The bytes up to a command's end: its operation, how many bytes of the piece, and its own bytes in all.
-    Whole(Operation, usize, usize),
+    Whole {
+        operation: Operation,
+        taken: usize,
+        size: usize,
+    },
     /// Nothing: other bytes stand in place of the stream's header.
     OtherStart,
     /// Nothing: a command's header is refused.
@@ -35,7 +42,7 @@ pub enum Taken {
 }
 
 /// Copies the piece after the first `held` bytes.
-fn hold(bytes: &mut [u8], held: usize, piece: &[u8])
+pub fn hold(bytes: &mut [u8], held: usize, piece: &[u8])
     requires { held + length piece.now ≤ length bytes.old }
     ensures size { length bytes.new ≡ length bytes.old }
     ensures content { take (held + length piece.now) bytes.new ≡ take held bytes.old ++ piece.now }
@@ -67,7 +74,7 @@ fn judge(header: &[u8; 8]) -> Option<(Operation, u32)>
 {
     let number = u32_at(header);
     let len = u32_at(&header[4..]);
-    match Operation::from_u32(number) {
+    match Operation::numbered(number) {
         Some(operation) if operation.allows(len) => Some((operation, len)),
         _ => None,
     }
@@ -97,7 +104,10 @@ fn take_command(bytes: &mut [u8], held: usize, piece: &[u8]) -> Taken
 {
     let Some(first) = first_eight(&bytes[..held], piece) else {
         hold(bytes, held, piece);
-        return Taken::Part(true, held + piece.len());
+        return Taken::Part {
+            started: true,
+            held: held + piece.len(),
+        };
     };
     let Some((operation, len)) = judge(&first) else {
         return Taken::OtherCommand;
@@ -106,10 +116,17 @@ fn take_command(bytes: &mut [u8], held: usize, piece: &[u8]) -> Taken
     let more = size - held;
     if piece.len() < more {
         hold(bytes, held, piece);
-        return Taken::Part(true, held + piece.len());
+        return Taken::Part {
+            started: true,
+            held: held + piece.len(),
+        };
     }
     hold(bytes, held, &piece[..more]);
-    Taken::Whole(operation, more, size)
+    Taken::Whole {
+        operation,
+        taken: more,
+        size,
+    }
 }
 
 /// Takes the piece after the first `held` bytes of the stream's header or else of a command, up to the end of
@@ -126,11 +143,22 @@ pub fn take_in(bytes: &mut [u8], started: bool, held: usize, piece: &[u8]) -> Ta
     match look_for_start(&bytes[..held], piece) {
         Start::Unfinished => {
             hold(bytes, held, piece);
-            Taken::Part(false, held + piece.len())
+            Taken::Part {
+                started: false,
+                held: held + piece.len(),
+            }
         }
         Start::Other => Taken::OtherStart,
         Start::Finished(n) => match take_command(bytes, 0, &piece[n..]) {
-            Taken::Whole(operation, more, size) => Taken::Whole(operation, n + more, size),
+            Taken::Whole {
+                operation,
+                taken,
+                size,
+            } => Taken::Whole {
+                operation,
+                taken: n + taken,
+                size,
+            },
             taken => taken,
         },
     }

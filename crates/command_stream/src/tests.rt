@@ -1,69 +1,116 @@
 ghost use Rattle.std.specs.Prelude.{◌≤◌, length};
+ghost use Rattle.command_stream.specs.Commands.{Allowed};
 
 use crate::{BufferCommand, Command, ObjectCommand, write_command, write_start};
+use std::alloc::Global;
 use std::test::Fail;
 use wire_io::{Failed, MemSink, Sink};
 
-/// The header, and then each operation once, by hand from the format: words are little-endian.
-pub const STREAM: [u8; 86] = [
-    0x45, 0x53, 0x43, 0x53, 0x01, 0x00, 0x00, 0x00, // ESCS, version 1
-    0x01, 0x00, 0x00, 0x00, 0x04, 0x00, 0x00, 0x00, 0x03, 0x00, 0x00, 0x00, // MakeBuffer 3
-    0x0B, 0x00, 0x00, 0x00, 0x08, 0x00, 0x00, 0x00, 0x92, 0x88, 0x00, 0x00, 0x03, 0x00, 0x00, 0x00, // BindBuffer
-    0x0C, 0x00, 0x00, 0x00, 0x0C, 0x00, 0x00, 0x00, 0x92, 0x88, 0x00, 0x00, 0xE4, 0x88, 0x00, 0x00,
-    0x02, 0x00, 0x00, 0x00, // BufferSize of two bytes
-    0x0D, 0x00, 0x00, 0x00, 0x0A, 0x00, 0x00, 0x00, 0x92, 0x88, 0x00, 0x00, 0x00, 0x00, 0x00, 0x00,
-    0xAA, 0xBB, 0x06, 0x00, 0x00, 0x00, 0x04, 0x00, 0x00, 0x00, 0x03, 0x00, 0x00, 0x00, // DropBuffer 3
-];
+/// The bytes of the stream that `write_stream` writes, with two bytes of data.
+pub const STREAM_BYTES: usize = 86;
 
 /// Where each call on the sink begins.
 const CALLS: [usize; 7] = [0, 8, 20, 36, 56, 72, 74];
 
-#[tactic(auto, using(crate::proofs::Allowed::allowed_commands))]
+/// The header, and each command once.
+#[tactic(auto, unfolding(gl_numbers::specs::Bytes::le32))]
 fn write_stream<S: Sink>(bytes: &[u8], stream: &mut S) -> Result<(), Failed>
     requires { length bytes.now ≤ 2 }
 {
     write_start(stream)?;
     write_command(&Command::Object(ObjectCommand::MakeBuffer(3)), stream)?;
+    let (target, usage) = (0x8892, 0x88E4);
     write_command(
-        &Command::Buffer(BufferCommand::BindBuffer {
-            target: 0x8892,
-            name: 3,
-        }),
+        &Command::Buffer(BufferCommand::BindBuffer { target, name: 3 }),
         stream,
     )?;
-    write_command(
-        &Command::Buffer(BufferCommand::BufferSize {
-            target: 0x8892,
-            usage: 0x88E4,
-            size: 2,
-        }),
-        stream,
-    )?;
-    write_command(
-        &Command::Buffer(BufferCommand::BufferBytes {
-            target: 0x8892,
-            offset: 0,
-            bytes,
-        }),
-        stream,
-    )?;
+    let size = BufferCommand::BufferSize {
+        target,
+        usage,
+        size: 2,
+    };
+    write_command(&Command::Buffer(size), stream)?;
+    let part = BufferCommand::BufferBytes {
+        target,
+        offset: 0,
+        bytes,
+    };
+    write_command(&Command::Buffer(part), stream)?;
     write_command(&Command::Object(ObjectCommand::DropBuffer(3)), stream)
 }
 
+/// The stream of the header and each command once.
+pub fn stream(alloc: Global) -> Result<[u8; STREAM_BYTES], Fail> {
+    let mut sink = MemSink::new(vec![in alloc; 0; STREAM_BYTES]?, vec![in alloc]?);
+    write_stream(&[0xAA, 0xBB], &mut sink)?;
+    let mut stream = [0; STREAM_BYTES];
+    if sink.bytes().len() == STREAM_BYTES {
+        stream.copy_from_slice(sink.bytes());
+    }
+    Ok(stream)
+}
+
+/// Whether the command is written as these bytes.
+fn is_written(alloc: Global, c: &Command<'_>, bytes: &[u8]) -> Result<bool, Fail>
+    requires { Allowed c.now }
+{
+    let mut sink = MemSink::new(vec![in alloc; 0; bytes.len()]?, vec![in alloc]?);
+    write_command(c, &mut sink)?;
+    Ok(sink.bytes() == bytes)
+}
+
 #[test]
+fn the_header_has_these_bytes(rt: HostRuntime) -> Result<(), Fail> {
+    let mut sink = MemSink::new(vec![in rt.alloc(); 0; 8]?, vec![in rt.alloc()]?);
+    write_start(&mut sink)?;
+    assert_eq!(rt;
+        sink.bytes(),
+        [0x45, 0x53, 0x43, 0x53, 1, 0, 0, 0].as_slice()
+    );
+    Ok(())
+}
+
+#[test]
+#[tactic(auto, unfolding(gl_numbers::specs::Bytes::le32))]
 fn commands_have_these_bytes(rt: HostRuntime) -> Result<(), Fail> {
-    let mut stream = MemSink::new(vec![in rt.alloc(); 0; STREAM.len()]?, vec![in rt.alloc()]?);
-    assert_eq!(rt; write_stream(&[0xAA, 0xBB], &mut stream), Ok(()));
-    assert_eq!(rt; stream.bytes(), STREAM.as_slice());
+    let make = Command::Object(ObjectCommand::MakeBuffer(3));
+    let bytes = [0x01, 0, 0, 0, 4, 0, 0, 0, 3, 0, 0, 0];
+    assert!(rt; is_written(rt.alloc(), &make, &bytes)?);
+    let drop = Command::Object(ObjectCommand::DropBuffer(3));
+    let bytes = [0x06, 0, 0, 0, 4, 0, 0, 0, 3, 0, 0, 0];
+    assert!(rt; is_written(rt.alloc(), &drop, &bytes)?);
+    let target = 0x8892;
+    let bind = Command::Buffer(BufferCommand::BindBuffer { target, name: 3 });
+    let bytes = [0x0B, 0, 0, 0, 8, 0, 0, 0, 0x92, 0x88, 0, 0, 3, 0, 0, 0];
+    assert!(rt; is_written(rt.alloc(), &bind, &bytes)?);
+    let size = Command::Buffer(BufferCommand::BufferSize {
+        target,
+        usage: 0x88E4,
+        size: 2,
+    });
+    let bytes = [
+        0x0C, 0, 0, 0, 12, 0, 0, 0, 0x92, 0x88, 0, 0, 0xE4, 0x88, 0, 0, 2, 0, 0, 0,
+    ];
+    assert!(rt; is_written(rt.alloc(), &size, &bytes)?);
+    let part = BufferCommand::BufferBytes {
+        target,
+        offset: 1,
+        bytes: &[0xAA, 0xBB],
+    };
+    let bytes = [
+        0x0D, 0, 0, 0, 10, 0, 0, 0, 0x92, 0x88, 0, 0, 1, 0, 0, 0, 0xAA, 0xBB,
+    ];
+    assert!(rt; is_written(rt.alloc(), &Command::Buffer(part), &bytes)?);
     Ok(())
 }
 
 #[test]
 fn a_fault_leaves_what_was_written_before(rt: HostRuntime) -> Result<(), Fail> {
+    let whole = stream(rt.alloc())?;
     let mut call = 0u64;
     for held in &CALLS {
         let mut stream = MemSink::new(
-            vec![in rt.alloc(); 0; STREAM.len()]?,
+            vec![in rt.alloc(); 0; STREAM_BYTES]?,
             vec![in rt.alloc(); call]?,
         );
         assert_eq!(rt;
@@ -71,22 +118,23 @@ fn a_fault_leaves_what_was_written_before(rt: HostRuntime) -> Result<(), Fail> {
             Err(Failed),
             "call {call}"
         );
-        assert!(rt; STREAM.get(..*held) == Some(stream.bytes()), "call {call}");
+        assert!(rt; whole.get(..*held) == Some(stream.bytes()), "call {call}");
         call = call.saturating_add(1);
     }
     Ok(())
 }
 
 #[test]
-fn a_full_sink_holds_a_front_of_the_stream(rt: HostRuntime) -> Result<(), Fail> {
-    for room in 0..STREAM.len() {
+fn a_full_sink_holds_a_prefix_of_the_stream(rt: HostRuntime) -> Result<(), Fail> {
+    let whole = stream(rt.alloc())?;
+    for room in 0..STREAM_BYTES {
         let mut stream = MemSink::new(vec![in rt.alloc(); 0; room]?, vec![in rt.alloc()]?);
         assert_eq!(rt;
             write_stream(&[0xAA, 0xBB], &mut stream),
             Err(Failed),
             "room {room}"
         );
-        assert!(rt; STREAM.get(..room) == Some(stream.bytes()), "room {room}");
+        assert!(rt; whole.get(..room) == Some(stream.bytes()), "room {room}");
     }
     Ok(())
 }

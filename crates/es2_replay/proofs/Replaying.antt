@@ -3,7 +3,7 @@ use Rattle.std.proofs.Common.{◌≡◌, ◌+◌, Option, Some, None, Ok, List, 
 use Rattle.std.specs.Option.{option_to_list}
 use Rattle.command_stream.specs.declared.command.Command.{Command}
 use Rattle.gl_model.specs.DriverState.{DriverState}
-use Rattle.gl_model.specs.DriverStep.{Fault, effect, shot}
+use Rattle.gl_model.specs.DriverStep.{Fault, shot}
 use Rattle.gl_model.specs.Replay.{replay, clean, ended, fault_of}
 use Rattle.gl_model.specs.Shot as Model
 use Rattle.gl_model.proofs.Replaying.{resumed, replay-append, replay-one}

@@ -96,15 +96,17 @@ acts-bind kept w t target handle bound new k sound is there named judged after =
     let other : option_map_or (λ v. is_other t v.first_target) (view_at w.buffers handle) false ≡ false =
     ap (λ (v : Option BufferView). option_map_or (λ v. is_other t v.first_target) v false) (sym (view-bound kept.buffers w.buffers handle k.buffers none)) ∙ apart in
     let taken = stored-taken t (w.buffers.contents handle) (sound.buffers.each handle) other in
-    let after' : new ≡ store.bound_to_target kept.buffers t (non_zero handle) = after ∙ ap (store.bound_to_target kept.buffers t) named in
-    (rw is (rw there (rw other refl)), rw after' (rw is (record {
-      names = record { count = k.names.count; each = k.names.each };
-      buffers = record {
-        each = stores-bind kept.buffers.buffers w.buffers t handle k.buffers.each none taken;
-        bound = ap (bind (Some t) (non_zero handle)) k.buffers.bound;
-      };
-      errors = k.errors;
-    })))
+    let after' : new ≡ store.bound_to_target kept.buffers t (non_zero handle) = after ∙ ap (store.bound_to_target kept.buffers t) named in (
+      rw is (rw there (rw other refl)),
+      rw after' (rw is (record {
+        names = record { count = k.names.count; each = k.names.each };
+        buffers = record {
+          each = stores-bind kept.buffers.buffers w.buffers t handle k.buffers.each none taken;
+          bound = ap (bind (Some t) (non_zero handle)) k.buffers.bound;
+        };
+        errors = k.errors;
+      })),
+    )
 
 -- what is bound has a first target
 bound-first : (s : BufferState) (target : ℕ) (t : BufferTarget) (bound : Option ℕ) → bound_to s.bound target ≡ bound → buffer_target_of target ≡ Some t → AreSoundBuffers s
@@ -154,15 +156,17 @@ acts-data kept w t u target usage fill filling new k sound is used fills judged 
     let here : bound_to w.buffers.bound target ≡ binding w.buffers.bound t = ap (option_and_then (binding w.buffers.bound)) is in
     let bound : binding kept.buffers.bound t ≡ binding w.buffers.bound t = ap (λ (b : Bindings). binding b t) k.buffers.bound in
     let filled = stored-filled t u usage fill filling (option_and_then w.buffers.contents (binding w.buffers.bound t)) (bound-first w.buffers target t (binding w.buffers.bound t) here is sound.buffers) used fills in
-    let stores = stores-if_bound kept.buffers.buffers w.buffers (binding w.buffers.bound t) (λ _. buffer_of t filling u) (take_data usage (content_of fill)) k.buffers.each filled in
-    (unrefused-data w kept.buffers t u target usage fill filling k.buffers is used fills judged, rw after (record {
-      names = record { count = k.names.count; each = k.names.each };
-      buffers = record {
-        each = rw (bound, here) stores;
-        bound = k.buffers.bound ∙ sym (bound-changed_bound (take_data usage (content_of fill)) target w.buffers);
-      };
-      errors = k.errors;
-    }))
+    let stores = stores-if_bound kept.buffers.buffers w.buffers (binding w.buffers.bound t) (λ _. buffer_of t filling u) (take_data usage (content_of fill)) k.buffers.each filled in (
+      unrefused-data w kept.buffers t u target usage fill filling k.buffers is used fills judged,
+      rw after (record {
+        names = record { count = k.names.count; each = k.names.each };
+        buffers = record {
+          each = rw (bound, here) stores;
+          bound = k.buffers.bound ∙ sym (bound-changed_bound (take_data usage (content_of fill)) target w.buffers);
+        };
+        errors = k.errors;
+      }),
+    )
 
 -- how a buffer of which some bytes were replaced is stored
 stored-patched_array : (at : ℕ) (part : List ℕ) (b : Option Buffer) → IfSome b (λ b. b.first_target ≡ Some Array) → IfSome b (λ b. at + length part ≤ length b.bytes)
@@ -244,12 +248,14 @@ pub acts-sub_data : (kept : Kept) (w : PageState) (t : BufferTarget) (target : �
     → new ≡ store.patched kept.buffers t offset part
     → PartRules w.buffers t target offset part × Keeps (record kept { buffers = new }) (record w { buffers = patch_buffer target (whole offset) part w.buffers })
 acts-sub_data kept w t target offset part new k sound is judged after =
-    let rules = part-rules kept.buffers w.buffers t target offset part k.buffers is judged in
-    (rules, rw after (record {
-      names = record { count = k.names.count; each = k.names.each };
-      buffers = keeps-patch kept w t target offset part k sound is rules;
-      errors = k.errors;
-    }))
+    let rules = part-rules kept.buffers w.buffers t target offset part k.buffers is judged in (
+      rules,
+      rw after (record {
+        names = record { count = k.names.count; each = k.names.each };
+        buffers = keeps-patch kept w t target offset part k sound is rules;
+        errors = k.errors;
+      }),
+    )
 
 -- createBuffer
 pub acts-create : (kept : Kept) (w : PageState) (room : Option Kind) → Keeps kept w → IsSound w → (length kept.names.objects ≡ 1048576 → ⊥)
@@ -261,18 +267,20 @@ acts-create kept w room k sound unspent =
     let count = k.names.count in
     let few = sound.objects.count in
     let next : Names.next_handle kept.names ≡ next_handle w = ap (λ n. n + 1) count in
-    let names = names-made kept.names w (new_object kind.Buffer) room k.names in
-    (elim (leb_tells 1048576 (length w.objects)) [
-      | inl all ↦ absurd (unspent (omega (arith, few, count, all.1)))
-      | inr left ↦ rw left.0 refl
-    ], record {
-      names = record { count = names.count; each = names.each };
-      buffers = record {
-        each = rw next (stores-make kept.buffers.buffers w.buffers (next_handle w) k.buffers.each);
-        bound = k.buffers.bound;
-      };
-      errors = k.errors;
-    })
+    let names = names-made kept.names w (new_object kind.Buffer) room k.names in (
+      elim (leb_tells 1048576 (length w.objects)) [
+        | inl all ↦ absurd (unspent (omega (arith, few, count, all.1)))
+        | inr left ↦ rw left.0 refl
+      ],
+      record {
+        names = record { count = names.count; each = names.each };
+        buffers = record {
+          each = rw next (stores-make kept.buffers.buffers w.buffers (next_handle w) k.buffers.each);
+          bound = k.buffers.bound;
+        };
+        errors = k.errors;
+      },
+    )
 
 -- deleteBuffer of a live buffer
 pub acts-delete : (kept : Kept) (w : PageState) (room : Option Kind) (handle : ℕ) → Keeps kept w → is_live w kind.Buffer handle ≡ true

@@ -24,6 +24,7 @@ name-apart handle k =
   where
     same_name : (h : ℕ) → nat_eq (buffer_name h) (buffer_name h) ≡ true
     same_name h = elim (eqb_tells (buffer_name h) (buffer_name h)) [ inl same ↦ same.0 | inr other ↦ absurd (other.1 refl) ]
+
     same_name' : (h : ℕ) → nat_eq h h ≡ true
     same_name' h = elim (eqb_tells h h) [ inl same ↦ same.0 | inr other ↦ absurd (other.1 refl) ]
 

@@ -176,18 +176,20 @@ good-deleted w g handle sound agrees e =
     let small = live-small w handle sound e in
     let there : is_some (g.buffers.contents (buffer_name handle)) ≡ true = ap is_some (agrees.buffers.made handle) ∙ sound.objects.buffers handle ∙ e in
     let count = length-changed w.objects handle mark in
-    let few = sound.objects.count in
-    (record {
-      objects = record {
-        count = omega (arith, count, few);
-        buffers = λ h. elim (eqb_tells h handle) [
-          | inl same ↦ rw same.0 (sym (ap live (object_at-changed w.objects handle mark h ∙ ap (λ b. cond b (option_map mark (object_at w.objects handle)) (object_at w.objects h)) same.0) ∙ live-marked (object_at w.objects handle)))
-          | inr other ↦ rw other.0 (sound.objects.buffers h ∙ sym (ap live (object_at-changed w.objects handle mark h ∙ ap (λ b. cond b (option_map mark (object_at w.objects handle)) (object_at w.objects h)) other.0)))
-        ];
-      };
-      buffers = sound-drop handle w.buffers sound.buffers;
-    }, all-one _ (fits_drop (buffer_name handle) (omega (arith, small))),
-    follows-one g (command.Object (DropBuffer (buffer_name handle))) _ (rw there refl) refl refl (record { buffers = agrees-drop handle w.buffers g.buffers agrees.buffers }))
+    let few = sound.objects.count in (
+      record {
+        objects = record {
+          count = omega (arith, count, few);
+          buffers = λ h. elim (eqb_tells h handle) [
+            | inl same ↦ rw same.0 (sym (ap live (object_at-changed w.objects handle mark h ∙ ap (λ b. cond b (option_map mark (object_at w.objects handle)) (object_at w.objects h)) same.0) ∙ live-marked (object_at w.objects handle)))
+            | inr other ↦ rw other.0 (sound.objects.buffers h ∙ sym (ap live (object_at-changed w.objects handle mark h ∙ ap (λ b. cond b (option_map mark (object_at w.objects handle)) (object_at w.objects h)) other.0)))
+          ];
+        };
+        buffers = sound-drop handle w.buffers sound.buffers;
+      },
+      all-one _ (fits_drop (buffer_name handle) (omega (arith, small))),
+      follows-one g (command.Object (DropBuffer (buffer_name handle))) _ (rw there refl) refl refl (record { buffers = agrees-drop handle w.buffers g.buffers agrees.buffers }),
+    )
 
 -- deleteBuffer
 pub good-delete : (w : PageState) (g : DriverState) (kind' : ObjectKind) (handle : ℕ) → IsSound w → Agrees w g → IsGood g (delete_row w kind' handle)
@@ -280,6 +282,7 @@ twice f g h e (Some handle) s k =
   where
     own-number : (n : ℕ) → nat_eq n n ≡ true
     own-number n = elim (eqb_tells n n) [ inl same ↦ same.0 | inr other ↦ absurd (other.1 refl) ]
+
     map-twice : (f g h : Buffer → Buffer) → ((b : Buffer) → g (f b) ≡ h b) → (b : Option Buffer) → option_map g (option_map f b) ≡ option_map h b
     map-twice f g h e None = refl
     map-twice f g h e (Some b) = ap Some (e b)
@@ -332,6 +335,7 @@ filled-view usage bytes (Some handle) s some = rw (own-number handle) (one (s.co
   where
     own-number : (n : ℕ) → nat_eq n n ≡ true
     own-number n = elim (eqb_tells n n) [ inl same ↦ same.0 | inr other ↦ absurd (other.1 refl) ]
+
     one : (b : Option Buffer) → not (is_some (option_map view_of b)) ≡ false
         → (not (is_some (option_map view_of (option_map (take_data usage bytes) b))) ≡ false)
         × (option_map_or (λ v. nat_lt v.size (length bytes)) (option_map view_of (option_map (take_data usage bytes) b)) false ≡ false)
@@ -416,7 +420,7 @@ good-bytes w g target usage bytes sound agrees word word' short unrefused =
           let patched = agrees-bound (patch 0 bytes.now) target w1 g1 sized in
           let alike : (k : ℕ) → (fill_buffer target usage bytes.now w.buffers).contents k ≡ (patch_buffer target 0 bytes.now w1).contents k =
           λ k. sym (ap (λ (b : Option ℕ). (changed_if_bound (patch 0 bytes.now) b w1).contents k) here
-              ∙ twice (take_data usage zeros) (patch 0 bytes.now) (take_data usage bytes.now) (patch-all usage bytes.now) (bound_to w.buffers.bound target) w.buffers k) in
+          ∙ twice (take_data usage zeros) (patch 0 bytes.now) (take_data usage bytes.now) (patch-all usage bytes.now) (bound_to w.buffers.bound target) w.buffers k) in
           let bound3 : (fill_buffer target usage bytes.now w.buffers).bound ≡ (patch_buffer target 0 bytes.now w1).bound =
           bound-changed_bound (take_data usage bytes.now) target w.buffers ∙ sym bound1 ∙ sym (bound-changed_bound (patch 0 bytes.now) target w1) in
           record {
@@ -474,9 +478,11 @@ good-sub_data w g target offset part sound agrees fits unrefused =
         follows = rw empty.0 (record {
           driver = g;
           replayed = replay-none g;
-          agrees = record { buffers = agrees-alike w.buffers (patch_buffer target (whole offset) part.now w.buffers) g.buffers
-              (unchanged (patch (whole offset) part.now) (λ b. patch-none (whole offset) part.now b empty.1) bound w.buffers)
-              (bound-changed_bound (patch (whole offset) part.now) target w.buffers) agrees.buffers };
+          agrees = record {
+            buffers = agrees-alike w.buffers (patch_buffer target (whole offset) part.now w.buffers) g.buffers
+                (unchanged (patch (whole offset) part.now) (λ b. patch-none (whole offset) part.now b empty.1) bound w.buffers)
+                (bound-changed_bound (patch (whole offset) part.now) target w.buffers) agrees.buffers;
+          };
         });
       }
       | inr some ↦

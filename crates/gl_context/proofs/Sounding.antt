@@ -209,6 +209,7 @@ bound-taken target number s there other =
   where
     own-number : (n : ℕ) → nat_eq n n ≡ true
     own-number n = elim (eqb_tells n n) [ inl same ↦ same.0 | inr other ↦ absurd (other.1 refl) ]
+
     second-false : (x y : Bool) → (not x && not y) ≡ false → x ≡ false → y ≡ true
     second-false true y e f = absurd cc
     second-false false true e f = refl

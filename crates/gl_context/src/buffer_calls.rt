@@ -20,7 +20,9 @@ use crate::deed::{Deed, Outgoing};
 use buffer_store::Content;
 use call_records::{BufferCall, Fill, Value};
 use command_stream::{BufferCommand, Command};
-use gl_numbers::{BUFFER_BYTES_MAX, BUFFER_SIZE, BufferTarget, GlError, Handle, Kind, Usage, is_buffer_parameter};
+use gl_numbers::{
+    BUFFER_BYTES_MAX, BUFFER_SIZE, BufferTarget, GlError, Handle, Kind, Usage, is_buffer_parameter,
+};
 use object_names::Find;
 
 /// What a bufferData fills a buffer with, where a buffer can have it.
@@ -109,7 +111,9 @@ impl Context {
                 offset,
                 bytes,
             } => self.buffer_sub_data(*target, *offset, bytes),
-            BufferCall::GetBufferParameter { target, name } => self.buffer_parameter(*target, *name),
+            BufferCall::GetBufferParameter { target, name } => self.buffer_parameter(
+                *target, *name,
+            ),
         }
     }
 
@@ -151,7 +155,12 @@ impl Context {
 
     /// bufferData (WebGL 1.0 section 5.14.5)
     #[tactic(auto, using(crate::proofs::SentBytes::bytes_fit))]
-    fn buffer_data<'a>(&mut self, target: u32, usage: u32, fill: Fill<'a>) -> Result<Deed<'a>, GlError>
+    fn buffer_data<'a>(
+        &mut self,
+        target: u32,
+        usage: u32,
+        fill: Fill<'a>,
+    ) -> Result<Deed<'a>, GlError>
         requires { Fits (Buffer (BufferData target usage fill)) }
         ensures acts { (w : PageState) → Keeps self.old w → IsSound w → ActsBy (data_row w target usage fill.entry) w self.new result }
         ensures sendable { IfOk result (λ deed. CanSend deed.outgoing) }
@@ -174,7 +183,12 @@ impl Context {
 
     /// bufferSubData (WebGL 1.0 section 5.14.5)
     #[tactic(auto, using(crate::proofs::SentBytes::part_fit))]
-    fn buffer_sub_data<'a>(&mut self, target: u32, offset: i64, bytes: &'a [u8]) -> Result<Deed<'a>, GlError>
+    fn buffer_sub_data<'a>(
+        &mut self,
+        target: u32,
+        offset: i64,
+        bytes: &'a [u8],
+    ) -> Result<Deed<'a>, GlError>
         requires { Fits (Buffer (BufferSubData target offset bytes)) }
         ensures acts { (w : PageState) → Keeps self.old w → IsSound w → ActsBy (sub_data_row w target offset bytes.entry) w self.new result }
         ensures sendable { IfOk result (λ deed. CanSend deed.outgoing) }

@@ -7,6 +7,9 @@
 mod buffer_bindings;
 mod buffer_words;
 mod errors;
+mod field_bytes;
+mod field_reading;
+mod fields;
 mod kinds;
 mod limits;
 mod short_lists;
@@ -21,10 +24,15 @@ pub use errors::{
     GlError, INVALID_ENUM, INVALID_FRAMEBUFFER_OPERATION, INVALID_OPERATION, INVALID_VALUE, Memory,
     NO_ERROR, OUT_OF_MEMORY,
 };
+pub use field_bytes::{FIELD_BYTES_MAX, FieldBytes};
+pub use field_reading::Fields;
+pub use fields::{Field, Letter, Row, Tail};
 pub use kinds::{Handle, Kind, Stage};
 pub use limits::{BUFFER_BYTES_MAX, HANDLES_MAX};
 pub use short_lists::{NAME_BYTES, Name, WORDS, Words};
-pub use words_in_bytes::{four_words, i64_at, three_words, two_words, u32_at, word_bytes};
+pub use words_in_bytes::{
+    four_words, i32_at, i64_at, int_bytes, long_bytes, three_words, two_words, u32_at, word_bytes,
+};
 
 #[cfg(test)]
 mod tests;

@@ -1,5 +1,7 @@
-ghost use Rattle.std.specs.Prelude.{◌≡◌, ◌≤◌, ◌++◌, length, drop};
+ghost use Rattle.std.specs.Prelude.{◌≡◌, ◌≤◌, ◌++◌, length, drop, FitsSigned};
+ghost use Rattle.std.specs.Int.{w32};
 ghost use Rattle.gl_numbers.specs.Bytes.{le32, le64, IsLong};
+ghost use Rattle.gl_numbers.specs.Fields.{le32_signed};
 
 /// The word whose four bytes, the low one first, begin these bytes.
 #[tactic(auto, unfolding(crate::specs::Bytes::le32))]
@@ -8,6 +10,16 @@ pub fn u32_at(bytes: &[u8]) -> u32
     ensures { bytes.now ≡ le32 result ++ drop 4 bytes.now }
 {
     u32::from_le_bytes([bytes[0], bytes[1], bytes[2], bytes[3]])
+}
+
+/// The number of 32 bits with a sign whose four bytes, the low one first, begin these bytes.
+#[tactic(auto, unfolding(crate::specs::Fields::le32_signed))]
+pub fn i32_at(bytes: &[u8]) -> i32
+    requires { 4 ≤ length bytes.now }
+    ensures bytes { bytes.now ≡ le32_signed result ++ drop 4 bytes.now }
+    ensures range { FitsSigned w32 result }
+{
+    i32::from_le_bytes([bytes[0], bytes[1], bytes[2], bytes[3]])
 }
 
 /// The number of 64 bits with a sign whose eight bytes, the low one first, begin these bytes.
@@ -28,6 +40,22 @@ pub fn word_bytes(a: u32) -> [u8; 4]
     ensures { result ≡ le32 a }
 {
     a.to_le_bytes()
+}
+
+/// The four bytes of a number of 32 bits with a sign, the low one first.
+#[tactic(auto, unfolding(crate::specs::Fields::le32_signed))]
+pub fn int_bytes(number: i32) -> [u8; 4]
+    ensures { result ≡ le32_signed number }
+{
+    number.to_le_bytes()
+}
+
+/// The eight bytes of a number of 64 bits with a sign, the low one first.
+#[tactic(auto, unfolding(crate::specs::Bytes::le64))]
+pub fn long_bytes(number: i64) -> [u8; 8]
+    ensures { result ≡ le64 number }
+{
+    number.to_le_bytes()
 }
 
 /// Two words' bytes.

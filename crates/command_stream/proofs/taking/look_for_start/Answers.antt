@@ -9,5 +9,6 @@ pub returns-then-eq : goal.returns-then-eq
 returns-then-eq c =
     let is : c.in-Some.first ≡ stream_start = (slice_eq-Decides Decides-eqb _ _ _ c.if-eq.ensures).0 refl ∙ c.start.ensures in (
       omega (arith, c.in-Some.ensures.1, c.requires),
-      start-ends c.args.begun.now c.args.piece.now c.in-Some.first (omega (arith, c.requires)) (ap length is ∙ length-start) c.in-Some.ensures.0 ∙ is,
+      start-ends c.args.begun.now c.args.piece.now c.in-Some.first (omega (arith, c.requires)) (ap length is
+          ∙ length-start) c.in-Some.ensures.0 ∙ is,
     )

@@ -6,14 +6,17 @@ use Rattle.command_stream.proofs.taking.take_in.Goals as goal
 pub returns-in-Whole : goal.returns-in-Whole
 returns-in-Whole c =
     let rest : take (length c.args.piece.now - c.in-Finished.n) (drop c.in-Finished.n c.args.piece.now) ≡ drop c.in-Finished.n c.args.piece.now = take_rest c.args.piece.now c.in-Finished.n in
-    let more : c.in-Whole.more ≤ length (drop c.in-Finished.n c.args.piece.now) = rw rest at c.in-Whole.ensures.2 in
+    let taken = c.in-Whole.ensures.2 in
+    let more : c.in-Whole.taken ≤ length (drop c.in-Finished.n c.args.piece.now) = rw rest at taken.within in
     rw c.if-started.false (
       c.in-Whole.ensures.0,
       c.in-Whole.ensures.1,
-      omega (arith, more, length-drop c.in-Finished.n c.args.piece.now, c.in-Finished.ensures.0),
-      omega (arith, c.in-Whole.ensures.3),
-      taken-after-start (take c.args.held c.args.bytes.now) c.args.piece.now c.in-Finished.n c.in-Whole.more c.in-Finished.ensures.1 ∙ (rw rest at c.in-Whole.ensures.4),
-      c.in-Whole.ensures.5,
+      record {
+        within = omega (arith, more, length-drop c.in-Finished.n c.args.piece.now, c.in-Finished.ensures.0);
+        some = omega (arith, taken.some);
+        bytes = taken-after-start (take c.args.held c.args.bytes.now) c.args.piece.now c.in-Finished.n c.in-Whole.taken c.in-Finished.ensures.1 ∙ (rw rest at taken.bytes);
+        whole = taken.whole;
+      },
     )
 
 pub returns-in_default : goal.returns-in_default

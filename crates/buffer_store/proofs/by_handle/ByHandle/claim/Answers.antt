@@ -1,5 +1,5 @@
 -- A buffer of this target stays as it is.
-use Rattle.std.proofs.Common.{rules, ◌≡◌, Some, sym, ◌∙◌, ap}
+use Rattle.std.proofs.Common.{rules, ◌≡◌, Some}
 use Rattle.buffer_store.proofs.Firsts.{claimed_same}
 use Rattle.buffer_store.proofs.by_handle.ByHandle.claim.Goals as goal
 

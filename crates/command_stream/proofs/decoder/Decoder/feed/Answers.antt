@@ -8,25 +8,25 @@ invariant_of-self-in-Part c =
     let same : length c.take_in.new.bytes ≡ length c.as_mut_slice.result.now = c.in-Part.ensures.0 in
     let over : take c.self.inside.bytes.len (c.take_in.new.bytes ++ drop (length c.take_in.new.bytes) c.self.inside.bytes.items) ≡ c.take_in.new.bytes =
     written-over c.self.inside.bytes.len c.self.inside.bytes.items c.take_in.new.bytes (sym (same ∙ c.as_mut_slice.ensures.len)) in
-    let size : length c.take_in.new.bytes ≡ COMMAND_MAX = same ∙ ap length c.as_mut_slice.ensures.value ∙ c.self.invariant.0 in
-    rw over (
-      size,
-      omega (arith, size, c.in-Part.ensures.1),
-      c.in-Part.ensures.3,
-      counted-part c.self.inside.started c.in-Part.started (take c.self.inside.held c.self.inside.bytes.items) c.args.piece.now (take c.in-Part.held c.take_in.new.bytes) c.self.inside.taken
-          c.self.invariant.3 c.in-Part.ensures.3 (rw c.as_mut_slice.ensures.value at c.in-Part.ensures.2),
-    )
+    let size : length c.take_in.new.bytes ≡ COMMAND_MAX = same ∙ ap length c.as_mut_slice.ensures.value ∙ c.self.invariant.room in
+    rw over (record {
+      room = size;
+      within = omega (arith, size, c.in-Part.ensures.1);
+      part = c.in-Part.ensures.2.rest;
+      counted = counted-part c.self.inside.started c.in-Part.started (take c.self.inside.held c.self.inside.bytes.items) c.args.piece.now (take c.in-Part.held c.take_in.new.bytes) c.self.inside.taken
+          c.self.invariant.counted c.in-Part.ensures.2.rest (rw c.as_mut_slice.ensures.value at c.in-Part.ensures.2.bytes);
+    })
 
 pub invariant_of-self-in-Whole : goal.invariant_of-self-in-Whole
 invariant_of-self-in-Whole c =
     let same : length c.take_in.new.bytes ≡ length c.as_mut_slice.result.now = c.in-Whole.ensures.0 in
     let over : take c.self.inside.bytes.len (c.take_in.new.bytes ++ drop (length c.take_in.new.bytes) c.self.inside.bytes.items) ≡ c.take_in.new.bytes =
     written-over c.self.inside.bytes.len c.self.inside.bytes.items c.take_in.new.bytes (sym (same ∙ c.as_mut_slice.ensures.len)) in
-    let size : length c.take_in.new.bytes ≡ COMMAND_MAX = same ∙ ap length c.as_mut_slice.ensures.value ∙ c.self.invariant.0 in
-    rw over (
-      size,
-      omega arith,
-      inl (omega arith),
-      counted-whole c.self.inside.started (take c.self.inside.held c.self.inside.bytes.items) c.args.piece.now (take c.in-Whole.size c.take_in.new.bytes) c.self.inside.taken c.in-Whole.n
-          c.self.invariant.3 c.in-Whole.ensures.2 (rw c.as_mut_slice.ensures.value at c.in-Whole.ensures.4),
-    )
+    let size : length c.take_in.new.bytes ≡ COMMAND_MAX = same ∙ ap length c.as_mut_slice.ensures.value ∙ c.self.invariant.room in
+    rw over (record {
+      room = size;
+      within = omega arith;
+      part = inl (omega arith);
+      counted = counted-whole c.self.inside.started (take c.self.inside.held c.self.inside.bytes.items) c.args.piece.now (take c.in-Whole.size c.take_in.new.bytes) c.self.inside.taken c.in-Whole.taken
+          c.self.invariant.counted c.in-Whole.ensures.2.within (rw c.as_mut_slice.ensures.value at c.in-Whole.ensures.2.bytes);
+    })

@@ -1,5 +1,5 @@
 -- The name was bound to the target, and then its buffer took the target.
-use Rattle.std.proofs.Common.{◌≡◌, Some, sym, ap, ◌∙◌}
+use Rattle.std.proofs.Common.{◌≡◌, Some, ap, ◌∙◌}
 use Rattle.gl_numbers.specs.BufferBindings.{bind, non_zero}
 use Rattle.gl_numbers.specs.BufferWords.{buffer_target_of}
 use Rattle.es2_replay.specs.Kept.{Kept}

@@ -14,5 +14,5 @@ pub returns-clause-acts : goal.returns-clause-acts
 returns-clause-acts c w k sound =
     let kept : Kept = record { names = c.self.inside.names; buffers = c.self.inside.buffers; errors = c.self.inside.errors; failed = c.self.inside.failed } in
     let acts = acts-bind kept w c.in-Some.to c.args.target c.args.handle c.in-Ok.bindable.0 c.bind.new.self (rw (← c.self.view_is) at k) sound
-        (sym c.in-Some.ensures) (c.in-Ok.ensures.judged w k sound) c.in-Ok.ensures.bound.0 c.in_default-bind.ensures.judged c.in_default-bind.ensures.ok in
+    (sym c.in-Some.ensures) (c.in-Ok.ensures.judged w k sound) c.in-Ok.ensures.bound.0 c.in_default-bind.ensures.judged c.in_default-bind.ensures.ok in
     (acts.0, acts.1, refl, rw c.in-Ok.ensures.bound.1 refl)

@@ -15,5 +15,5 @@ pub returns-clause-acts : goal.returns-clause-acts
 returns-clause-acts c w k sound =
     let kept : Kept = record { names = c.self.inside.names; buffers = c.self.inside.buffers; errors = c.self.inside.errors; failed = c.self.inside.failed } in
     let acts = acts-data kept w c.in-Some-Some.to c.in-Some-Some.used c.args.target c.args.usage c.args.fill c.in-Some.content c.data.new.self (rw (← c.self.view_is) at k) sound
-        (sym c.in-Some-Some.ensures) (sym c.in-Some-Some.ensures') c.in-Some.ensures c.in_default-data.ensures.judged c.in_default-data.ensures.ok in
+    (sym c.in-Some-Some.ensures) (sym c.in-Some-Some.ensures') c.in-Some.ensures c.in_default-data.ensures.judged c.in_default-data.ensures.ok in
     (acts.0, acts.1, refl, c.content_sent.ensures.commands ∙ content-fill c.args.target c.args.usage c.args.fill c.in-Some.content c.in-Some.ensures)

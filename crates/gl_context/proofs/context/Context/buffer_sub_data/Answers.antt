@@ -16,5 +16,5 @@ returns-clause-acts c w k sound =
     let kept : Kept = record { names = c.self.inside.names; buffers = c.self.inside.buffers; errors = c.self.inside.errors; failed = c.self.inside.failed } in
     let again = to_z-of_z w64 c.args.offset c.ranges.offset in
     let acts = acts-sub_data kept w c.in-Some.to c.args.target c.args.offset c.args.bytes.now c.sub_data.new.self (rw (← c.self.view_is) at k) sound
-        (sym c.in-Some.ensures) (rw again at c.in_default-sub_data.ensures.judged) (rw again at c.in_default-sub_data.ensures.ok) in
+    (sym c.in-Some.ensures) (rw again at c.in_default-sub_data.ensures.judged) (rw again at c.in_default-sub_data.ensures.ok) in
     (unrefused-part w c.in-Some.to c.args.target c.args.offset c.args.bytes (sym c.in-Some.ensures) acts.0, acts.1, refl, c.part_sent.ensures.commands ∙ ap (λ n. part_sent c.args.target n c.args.bytes) (c.offset_word.ensures ∙ ap whole again))
