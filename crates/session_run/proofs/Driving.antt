@@ -2,7 +2,7 @@
 use Rattle.std.proofs.Common.{◌≡◌, ℕ, ◌+◌, None, List, [], ◌++◌, length, take, refl, ap, ◌∙◌, arith, length-append}
 use Rattle.std.proofs.lemmas.List.Elements.{All-append}
 use Rattle.command_stream.specs.declared.command.Command.{Command}
-use Rattle.command_stream.specs.Plain as Commands
+use Rattle.command_stream.specs.Commands as Commands
 use Rattle.gl_model.specs.DriverState.{DriverState}
 use Rattle.gl_model.specs.Replay.{Replayed, replay, clean}
 use Rattle.gl_model.specs.Shot.{Shot}

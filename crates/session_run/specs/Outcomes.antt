@@ -5,12 +5,12 @@ use Rattle.wire_io.specs.declared.status.Status.TheVariants as Status
 use Rattle.call_records.specs.declared.reading.Step.{Step}
 use Rattle.call_records.specs.declared.reading.ReadEnd.{ReadEnd}
 use Rattle.call_records.specs.declared.calls.Call.{Call}
-use Rattle.call_records.specs.Records.{encoding, session, session_start, Fits, plain}
+use Rattle.call_records.specs.Records.{encoding, session, session_start, Fits, parts_of}
 use Rattle.call_records.specs.Replies.{reply_encoding}
 use Rattle.call_records.specs.Reading.{StartRefuses, Refuses, HasRoom}
 use Rattle.command_stream.specs.Commands.{stream, stream_start}
 use Rattle.command_stream.specs.declared.command.Command.{Command}
-use Rattle.command_stream.specs.Plain as Commands
+use Rattle.command_stream.specs.Commands as Commands
 use Rattle.gl_model.specs.Shot.{Shot}
 use Rattle.gl_model.specs.PageState.{first_page}
 use Rattle.gl_model.specs.DriverState.{first_driver}
@@ -66,7 +66,7 @@ pub record Headline (run : Transcript) : Type 0 where
   pub nothing : run.left ≡ []
   pub room : HasRoomAfter (calls_of taken)
   -- by the definitions alone no other calls have these bytes
-  pub only : (calls : List Call) → All Fits calls → run.input ≡ session calls → map plain calls ≡ map plain (calls_of taken)
+  pub only : (calls : List Call) → All Fits calls → run.input ≡ session calls → map parts_of calls ≡ map parts_of (calls_of taken)
 
 -- the session's header was refused, or the source failed in it: no call was taken
 pub record EndedInStart (end : ReadEnd) (run : Transcript) : Type 0 where

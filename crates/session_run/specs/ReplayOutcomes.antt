@@ -9,7 +9,7 @@ use Rattle.call_records.specs.declared.reading.TheConstants.{INPUT_MAX}
 use Rattle.command_stream.specs.declared.operation.TheConstants.{START_BYTES, HEADER_BYTES}
 use Rattle.command_stream.specs.declared.command.Command.{Command}
 use Rattle.command_stream.specs.Commands.{command_encoding, stream_start, stream}
-use Rattle.command_stream.specs.Plain.{Fits, plain}
+use Rattle.command_stream.specs.Commands.{Fits, parts_of}
 use Rattle.command_stream.specs.DecoderState.{IsPartOfCommand, IsRefused}
 use Rattle.gl_model.specs.DriverState.{first_driver}
 use Rattle.gl_model.specs.DriverStep.{Fault, gl_error, outside_fetch}
@@ -122,7 +122,7 @@ pub record WholeStream (input left : List ℕ) : Type 0 where
   pub commands : List Command
   pub fits : All Fits commands
   pub whole : input ≡ stream commands
-  pub only : (others : List Command) → All Fits others → input ≡ stream others → map plain others ≡ map plain commands
+  pub only : (others : List Command) → All Fits others → input ≡ stream others → map parts_of others ≡ map parts_of commands
   pub within : HeadersWithin commands
   pub faultless : (replay first_driver commands).fault ≡ None
   pub from_bytes : ReplaysTo input (replay first_driver commands).shots

@@ -10,7 +10,7 @@ use Rattle.call_records.specs.declared.replies.Reply.{Reply}
 use Rattle.call_records.specs.Records.{encoding, Fits}
 use Rattle.call_records.specs.Replies.{reply_encoding}
 use Rattle.command_stream.specs.declared.command.Command.{Command}
-use Rattle.command_stream.specs.Plain as Commands
+use Rattle.command_stream.specs.Commands as Commands
 use Rattle.gl_model.specs.PageState.{first_page}
 use Rattle.gl_model.specs.DriverState.{DriverState, first_driver}
 use Rattle.gl_model.specs.Replay.{replay, clean}

@@ -3,7 +3,7 @@ ghost use Rattle.wire_io.specs.Faults.{Rose};
 ghost use Rattle.wire_io.specs.Sources.{WhereTold};
 ghost use Rattle.command_stream.specs.declared.command.Command as Commands;
 ghost use Rattle.command_stream.specs.Commands.{stream};
-ghost use Rattle.command_stream.specs.Plain.{Fits};
+ghost use Rattle.command_stream.specs.Commands.{Fits};
 ghost use Rattle.gl_model.specs.DriverState.{first_driver};
 ghost use Rattle.gl_model.specs.Replay.{replay};
 ghost use Rattle.session_run.specs.Playing.{StreamCause};

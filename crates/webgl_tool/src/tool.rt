@@ -5,7 +5,6 @@ ghost use Rattle.call_records.specs.Records.{Fits, session};
 ghost use Rattle.call_records.specs.declared.calls.Call as Calls;
 ghost use Rattle.command_stream.specs.declared.command.Command as Commands;
 ghost use Rattle.command_stream.specs.Commands as Streams;
-ghost use Rattle.command_stream.specs.Plain as Plain;
 ghost use Rattle.gl_model.specs.DriverState.{first_driver};
 ghost use Rattle.gl_model.specs.Replay as Driver;
 ghost use Rattle.session_run.specs.Outcomes.{Headline, EndedAs, Stopped, WhereAllTold, Untouched, IsComplete};
@@ -101,11 +100,11 @@ pub fn run_tool<S: Source, O: Sink, T: Sink>(
     ensures replay_stream_unused { is_replay (map string_bytes words.now) ≡ true → stream.new ≡ stream.old }
     // a whole stream is replayed where no object fails, and to its end where it has no fault, as what `run` sends has none
     ensures replay_complete { is_replay (map string_bytes words.now) ≡ true → (commands : List Commands.Command)
-        → All Plain.Fits commands → S.left input.old ≡ Some (Streams.stream commands) → length (Streams.stream commands) ≤ 2 ^ 62
+        → All Streams.Fits commands → S.left input.old ≡ Some (Streams.stream commands) → length (Streams.stream commands) ≤ 2 ^ 62
         → (Rose (S.faults input.old) (S.faults input.new) → ⊥) → (Rose (O.faults out.old) (O.faults out.new) → ⊥)
         → IsReplayed commands result }
     ensures replay_no_fault { is_replay (map string_bytes words.now) ≡ true → (commands : List Commands.Command)
-        → All Plain.Fits commands → S.left input.old ≡ Some (Streams.stream commands)
+        → All Streams.Fits commands → S.left input.old ≡ Some (Streams.stream commands)
         → (Driver.replay first_driver commands).fault ≡ None → (number code : ℕ) → result ≡ Status.ReplayFault number code → ⊥ }
     // the sinks in use handed on all that they took, but after Usage and WriteFault
     ensures replies_handed_on { (result ≡ Status.Usage → ⊥) → (result ≡ Status.WriteFault → ⊥) → O.handed_on out.new }
