@@ -13,9 +13,8 @@ use Rattle.call_records.specs.declared.reading.ReadEnd.{ReadEnd}
 use Rattle.call_records.specs.declared.reading.ReadEnd.TheVariants.{ReadFault}
 use Rattle.call_records.specs.Records.{encoding, session, session_start, closing_record, Fits}
 use Rattle.call_records.proofs.OneEncoding.{answered, next_rest, started}
-use Rattle.session_run.specs.PageRun.{Taken}
-use Rattle.session_run.specs.Sessions.{records_of}
-use Rattle.session_run.specs.Outcomes.{RefusesReading}
+use Rattle.session_run.specs.Serving.{records_of, place_after}
+use Rattle.session_run.specs.Reads.{RefusesReading}
 use Rattle.session_run.proofs.Telling.{both}
 
 -- what is left of a session's records after some were taken
@@ -24,13 +23,13 @@ pub record RestOf (rest : List ℕ) : Type 0 where
   pub fits : All Fits todo
   pub left : rest ≡ flat_map encoding todo ++ closing_record
 
-pub rest_of : (taken : List Taken) (todo : List Call) (rest : List ℕ) → All (λ t. Fits t.call) taken → All Fits todo
-    → records_of taken ++ rest ≡ flat_map encoding todo ++ closing_record → RestOf rest
+pub rest_of : (calls todo : List Call) (rest : List ℕ) → All Fits calls → All Fits todo
+    → records_of calls ++ rest ≡ flat_map encoding todo ++ closing_record → RestOf rest
 rest_of [] todo rest took fits e = record { todo = todo; fits = fits; left = e }
-rest_of (t ∷ taken) todo rest took fits e =
-    let next = next_rest todo 0 (flat_map encoding todo ++ closing_record) (records_of taken ++ rest) t.call fits (took 0 t (omega arith)) refl
-    (sym e ∙ append_assoc (encoding t.call) (records_of taken) rest) in
-    rest_of taken next.rest rest (λ k d within. took (suc k) d (omega arith)) next.fits next.left
+rest_of (call ∷ calls) todo rest took fits e =
+    let next = next_rest todo 0 (flat_map encoding todo ++ closing_record) (records_of calls ++ rest) call fits (took 0 call (omega arith)) refl
+    (sym e ∙ append_assoc (encoding call) (records_of calls) rest) in
+    rest_of calls next.rest rest (λ k d within. took (suc k) d (omega arith)) next.fits next.left
 
 -- a session's header has two words
 pub start-length : length session_start ≡ 8
@@ -47,13 +46,13 @@ pub complete : (calls : List Call) (old new : List ℕ) (end : ReadEnd) → All 
     → RefusesReading end old new → end ≡ ReadFault
 complete calls old new end fits e short (inl refused) = only_fault {T = Unit {0}} end (started calls old new (Err end) e refused).answered
 complete calls old new end fits e short (inr r) =
-    let same = append_cancel_left session_start (records_of r.taken ++ r.rest) (flat_map encoding calls ++ closing_record) (sym r.before ∙ e) in
-    let rest = rest_of r.taken calls r.rest r.fits fits same in
+    let same = append_cancel_left session_start (records_of r.calls ++ r.rest) (flat_map encoding calls ++ closing_record) (sym r.before ∙ e) in
+    let rest = rest_of r.calls calls r.rest r.fits fits same in
     let whole = ap length e in
-    let parts = ap length r.before ∙ length-append session_start (records_of r.taken ++ r.rest) in
-    let more = length-append (records_of r.taken) r.rest in
+    let parts = ap length r.before ∙ length-append session_start (records_of r.calls ++ r.rest) in
+    let more = length-append (records_of r.calls) r.rest in
     let start : length session_start ≡ 8 = start-length in
-    only_fault {T = Step} end (answered rest.todo (8 + length (records_of r.taken)) r.rest new (Err end) rest.fits rest.left (omega (arith, whole, parts, more, start, short)) r.refused)
+    only_fault {T = Step} end (answered rest.todo (place_after r.calls) r.rest new (Err end) rest.fits rest.left (omega (arith, whole, parts, more, start, short)) r.refused)
 
 -- the same, where the source tells what is left
 pub complete_told : (calls : List Call) (old new : Option (List ℕ)) (end : ReadEnd) → All Fits calls → old ≡ Some (session calls) → length (session calls) ≤ 2 ^ 62

@@ -1,65 +1,128 @@
 -- The loop over records: its start, one more call, and a call that was cut short.
-use Rattle.std.proofs.Common.{◌≡◌, ℕ, ◌+◌, ◌-◌, ◌<◌, ◌≤◌, ◌^◌, Option, Some, None, List, [], ◌∷◌, ◌++◌, length, refl, sym, ap, ◌∙◌, arith, append-nil, length-append}
+use Rattle.std.proofs.Common.{◌≡◌, ℕ, ◌+◌, ◌-◌, ◌<◌, ◌≤◌, ◌^◌, Option, Some, None, List, [], ◌∷◌, ◌++◌, length, Ok, Err, refl, sym, ap, subst, ◌∙◌, arith, length-append}
+use Rattle.std.specs.Option.{option_to_list}
 use Rattle.std.specs.Io.KnownBytes.{prepend_known, append_known}
 use Rattle.wire_io.proofs.Known.{taken_twice, sent_twice}
+use Rattle.std.proofs.lemmas.Grind.{flat_map-append}
+use Rattle.gl_numbers.proofs.Bytes.{length-le32}
 use Rattle.call_records.specs.declared.calls.Call.{Call}
 use Rattle.call_records.specs.Records.{encoding, Fits}
-use Rattle.gl_numbers.proofs.Bytes.{length-le32}
-use Rattle.gl_model.specs.PageState.{first_page}
-use Rattle.session_run.specs.PageRun.{Taken, page_after, replies, OutOfMemoryAllowed}
-use Rattle.session_run.specs.Sent.{all_sent}
-use Rattle.session_run.specs.Stands.{Kept, Keeps}
-use Rattle.session_run.specs.Sessions.{records_of, answered_by, sent_by, AreTaken, SoFar, OneAnswered}
-use Rattle.session_run.proofs.Pushing.{page_after-push, records_of-push, answered_by-push, sent_by-push, AreTaken-push}
+use Rattle.command_stream.specs.declared.command.Command.{Command}
+use Rattle.command_stream.specs.Commands.{command_encoding}
+use Rattle.gl_model.specs.Shot.{Shot}
+use Rattle.gl_model.specs.PageState.{PageState, first_page}
+use Rattle.gl_model.specs.DriverState.{DriverState, first_driver}
+use Rattle.gl_context.specs.PageStep.{step}
+use Rattle.gl_context.specs.PageRun.{Taken, page_after, replies, shots, OutOfMemoryAllowed, all_sent}
+use Rattle.gl_context.specs.Stands.{Kept, Stands}
+use Rattle.gl_context.specs.Steps.{bytes_of}
+use Rattle.session_run.specs.Ends.{Sinks, Ends}
+use Rattle.session_run.specs.Serving.{calls_of, records_of, answered_by, place_after, HasRoomAfter, AreTaken, Drives, Progress}
+use Rattle.session_run.specs.Loop.{SoFar, OneAnswered, OneCut, RanUntilCut}
+use Rattle.session_run.proofs.Answering.{nothing_added}
+use Rattle.session_run.proofs.Driving.{drives-none, drives-then}
+use Rattle.session_run.proofs.Pushing.{page_after-push, shots-push, all_sent-push, records_of-push, answered_by-push, AreTaken-push}
 
--- nothing was taken or added
+-- nothing was taken
 pub prepend-nothing : (known : Option (List ℕ)) → known ≡ prepend_known [] known
 prepend-nothing None = refl
 prepend-nothing (Some xs) = refl
 
-pub append-nothing : (known : Option (List ℕ)) → known ≡ append_known known []
-append-nothing None = refl
-append-nothing (Some xs) = ap Some (sym (append-nil xs))
-
 -- no call was taken
 pub none-taken : AreTaken []
 unfolding replies OutOfMemoryAllowed
-none-taken = record { fits = λ k d within. absurd (omega arith); out_of_memory = refl; allowed = tt }
+none-taken = record {
+  fits = λ k d within. absurd (omega arith);
+  headers = λ k within. absurd (omega arith);
+  out_of_memory = refl;
+  allowed = tt;
+}
 
 -- no command was sent
-pub nothing-sent : (stream : Option (List ℕ)) → stream ≡ append_known stream (sent_by [])
-unfolding all_sent
-nothing-sent stream = append-nothing stream
+pub none-driven : Drives first_driver [] (shots first_page []) first_driver
+unfolding shots
+none-driven = drives-none first_driver
 
 -- before the first record
-pub begins : (left out stream : Option (List ℕ)) (kept : Kept) → Keeps kept first_page → SoFar left left out out stream stream kept 8
-unfolding replies page_after
-begins left out stream kept keeps = record {
+pub none-answered : (old : Sinks) → Progress old old [] [] first_driver
+unfolding replies all_sent
+none-answered old = record {
+  are = none-taken;
+  drives = none-driven;
+  answered = nothing_added old.out;
+  sends = nothing_added old.stream;
+  exact = refl;
+}
+
+pub begins : (old : Ends) (kept : Kept) → Stands kept first_page first_driver → SoFar old old kept 8
+unfolding page_after
+begins old kept stands = record {
   taken = [];
-  progress = record { are = none-taken; answered = append-nothing out; sends = nothing-sent stream };
-  read = prepend-nothing left;
-  keeps = keeps;
+  commands = [];
+  driver = first_driver;
+  progress = none-answered old.both;
+  stands = stands;
+  read = prepend-nothing old.left;
   counted = refl;
 }
 
 -- one more call was answered
-pub goes_on : (left0 mid left out0 outm out stream0 streamm stream : Option (List ℕ)) (kept new : Kept) (at size : ℕ) (call : Call)
-    → (so_far : SoFar left0 mid out0 outm stream0 streamm kept at) → Fits call → mid ≡ prepend_known (encoding call) left → size ≡ length (encoding call)
-    → OneAnswered (page_after first_page so_far.taken) call new outm out streamm stream → SoFar left0 left out0 out stream0 stream new (at + size)
-goes_on left0 mid left out0 outm out stream0 streamm stream kept new at size call so_far fits taken counted one =
+pub answered-more : (old mid new : Sinks) (ts : List Taken) (commands : List Command) (driver : DriverState) (kept : Kept) (call : Call)
+    → Progress old mid ts commands driver → Fits call → HasRoomAfter (calls_of ts) → (one : OneAnswered (page_after first_page ts) driver call kept mid new)
+    → Progress old new (ts ++ record { call = call; out_of_memory = one.out_of_memory } ∷ []) (commands ++ one.driven.commands) one.driven.driver
+answered-more old mid new ts commands driver kept call p fits room one =
+    let t : Taken = record { call = call; out_of_memory = one.out_of_memory } in
+    let made = option_to_list (step (page_after first_page ts) call one.out_of_memory).made in
+    let more = one.driven.commands in
+    record {
+      are = AreTaken-push ts t p.are fits room one.allowed one.said;
+      drives = subst (λ (l : List Shot). Drives first_driver (commands ++ more) l one.driven.driver) (sym (shots-push first_page ts t))
+          (drives-then first_driver driver one.driven.driver commands more (shots first_page ts) made p.drives one.driven.drives);
+      answered =
+          sent_twice old.out mid.out new.out (answered_by ts) _ p.answered one.answered ∙ ap (append_known old.out) (sym (answered_by-push ts t));
+      sends =
+          sent_twice old.stream mid.stream new.stream (bytes_of commands) (bytes_of more) p.sends one.sends
+          ∙ ap (append_known old.stream) (sym (flat_map-append command_encoding commands more));
+      exact = ap (λ (l : List Command). l ++ more) p.exact ∙ ap (λ (l : List Command). all_sent first_page ts ++ l) one.driven.exact ∙ sym (all_sent-push first_page ts t);
+    }
+
+pub goes_on : (old mid new : Ends) (kept next : Kept) (at size : ℕ) (call : Call) → (so_far : SoFar old mid kept at) → Fits call → at + 8 ≤ 2 ^ 62
+    → mid.left ≡ prepend_known (encoding call) new.left → size ≡ length (encoding call)
+    → OneAnswered (page_after first_page so_far.taken) so_far.driver call next mid.both new.both → SoFar old new next (at + size)
+goes_on old mid new kept next at size call so_far fits room took sized one =
     let ts = so_far.taken in
     let t : Taken = record { call = call; out_of_memory = one.out_of_memory } in
+    let within : HasRoomAfter (calls_of ts) = omega (arith, room, so_far.counted) in
     record {
       taken = ts ++ t ∷ [];
-      progress = record {
-        are = AreTaken-push ts t so_far.progress.are fits one.allowed one.said;
-        answered = sent_twice out0 outm out (answered_by ts) _ so_far.progress.answered one.answered ∙ ap (append_known out0) (sym (answered_by-push ts t));
-        sends = sent_twice stream0 streamm stream (sent_by ts) _ so_far.progress.sends one.sends ∙ ap (append_known stream0) (sym (sent_by-push ts t));
-      };
-      read = taken_twice left0 mid left (records_of ts) (encoding call) so_far.read taken ∙ ap (λ l. prepend_known l left) (sym (records_of-push ts t));
-      keeps = rw page_after-push one.keeps;
-      counted = rw (records_of-push ts t) (omega (arith, so_far.counted, counted, length-append (records_of ts) (encoding call)));
+      commands = so_far.commands ++ one.driven.commands;
+      driver = one.driven.driver;
+      progress = answered-more old.both mid.both new.both ts so_far.commands so_far.driver next call so_far.progress fits within one;
+      stands = subst (λ (w : PageState). Stands next w one.driven.driver) (sym (page_after-push first_page ts t)) one.stands;
+      read = taken_twice old.left mid.left new.left (records_of (calls_of ts)) (encoding call) so_far.read took
+          ∙ ap (λ l. prepend_known l new.left) (sym (records_of-push ts t));
+      counted =
+          let longer = ap length (records_of-push ts t) in
+          let parts = length-append (records_of (calls_of ts)) (encoding call) in
+          omega (arith, so_far.counted, sized, longer, parts);
     }
+
+-- a write failed in the call that was read after those that were answered
+pub cut_short : (old mid new : Ends) (kept : Kept) (at : ℕ) (call : Call) → (so_far : SoFar old mid kept at) → Fits call → at + 8 ≤ 2 ^ 62
+    → mid.left ≡ prepend_known (encoding call) new.left → OneCut (page_after first_page so_far.taken) so_far.driver call mid.both new.both
+    → RanUntilCut old new
+cut_short old mid new kept at call so_far fits room took cut = record {
+  taken = so_far.taken;
+  commands = so_far.commands;
+  driver = so_far.driver;
+  mid = mid.both;
+  progress = so_far.progress;
+  call = call;
+  fits = fits;
+  room = omega (arith, room, so_far.counted);
+  cut = cut;
+  read = taken_twice old.left mid.left new.left (records_of (calls_of so_far.taken)) (encoding call) so_far.read took;
+}
 
 -- a record has its header
 pub record-long : (call : Call) → 8 ≤ length (encoding call)

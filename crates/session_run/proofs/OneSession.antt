@@ -4,12 +4,12 @@ use Rattle.std.specs.Prelude.{All}
 use Rattle.std.specs.List.{flat_map}
 use Rattle.std.proofs.lemmas.List.{append_cancel_left}
 use Rattle.call_records.specs.declared.calls.Call.{Call}
-use Rattle.call_records.specs.Records.{encoding, plain, session, session_start, closing_record, Fits}
+use Rattle.call_records.specs.Records.{encoding, parts_of, session, session_start, closing_record, Fits}
 use Rattle.call_records.proofs.OneEncoding.{encoding-one, encoding-not_closing}
 
--- lists of calls with the same records are plainly the same
+-- lists of calls with the same records say the same
 pub records-one : (a b : List Call) → All Fits a → All Fits b → flat_map encoding a ++ closing_record ≡ flat_map encoding b ++ closing_record
-    → map plain a ≡ map plain b
+    → map parts_of a ≡ map parts_of b
 records-one [] [] fits_a fits_b e = refl
 records-one [] (y ∷ ys) fits_a fits_b e =
     absurd (encoding-not_closing y (flat_map encoding ys ++ closing_record) [] (sym (append_assoc (encoding y) (flat_map encoding ys) closing_record) ∙ sym e ∙ sym (append-nil closing_record)))
@@ -22,7 +22,7 @@ records-one (x ∷ xs) (y ∷ ys) fits_a fits_b e =
     cc (one.call, rest)
 
 -- sessions with the same bytes are of one list of calls
-pub session-one : (a b : List Call) → All Fits a → All Fits b → session a ≡ session b → map plain a ≡ map plain b
+pub session-one : (a b : List Call) → All Fits a → All Fits b → session a ≡ session b → map parts_of a ≡ map parts_of b
 session-one a b fits_a fits_b e =
     records-one a b fits_a fits_b (append_cancel_left session_start (flat_map encoding a ++ closing_record) (flat_map encoding b ++ closing_record) e)
 

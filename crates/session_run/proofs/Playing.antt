@@ -27,8 +27,8 @@ use Rattle.session_run.specs.Tallies.{no_tally, add, tally_of}
 use Rattle.session_run.specs.ReplayOutcomes.{HeadersWithin, Begins, HasOtherStart, HasBadHeader, HasLateHeader, HasFault}
 use Rattle.session_run.specs.Playing.{SoFar, OnePlayed, OneFaulted, PlaysOne, PieceStops}
 use Rattle.session_run.specs.declared.tally.Tally.{Tally}
-use Rattle.session_run.specs.declared.replay.ReplayEnd.{ReplayEnd}
-use Rattle.session_run.specs.declared.replay.ReplayEnd.TheVariants.{Truncated, Magic, Version, Refused, Late, Faults, Memory, Read}
+use Rattle.session_run.specs.declared.replay_end.ReplayEnd.{ReplayEnd}
+use Rattle.session_run.specs.declared.replay_end.ReplayEnd.TheVariants.{Truncated, Magic, Version, Refused, Late, Faults, Memory, Read}
 
 -- the length of a stream
 pub length-stream : (commands : List Command) → length (stream commands) ≡ 8 + length (flat_map command_encoding commands)

@@ -7,7 +7,7 @@ use Rattle.std.proofs.lemmas.List.Elements.{All-nil, All-cons, All-head, All-tai
 use Rattle.wire_io.specs.declared.status.Status.TheVariants as Status
 use Rattle.command_stream.specs.declared.command.Command.{Command}
 use Rattle.command_stream.specs.Commands.{op_of, body_of, command_encoding, stream_start, stream}
-use Rattle.command_stream.specs.Plain.{Fits, plain}
+use Rattle.command_stream.specs.Commands.{Fits, parts_of}
 use Rattle.command_stream.specs.Decoding.{Decoded}
 use Rattle.command_stream.specs.DecoderState.{DecoderState}
 use Rattle.command_stream.proofs.Pieces.{length-start, length-two}
@@ -16,10 +16,11 @@ use Rattle.command_stream.proofs.Decoding.{decoded-stream, decoded-one, stream-n
 use Rattle.gl_model.specs.DriverState.{first_driver}
 use Rattle.gl_model.specs.DriverStep.{Fault}
 use Rattle.gl_model.specs.Replay.{Replayed, replay}
-use Rattle.session_run.specs.ReplayOutcomes.{Begins, HasOtherStart, HasBadHeader, HasLateHeader, EndsInCommand, HasFault, FaultsAt, Stops, IsReplayed, status_of_end}
-use Rattle.session_run.specs.declared.replay.ReplayEnd.{ReplayEnd}
-use Rattle.session_run.specs.declared.replay.ReplayEnd.TheVariants.{Truncated, Magic, Version, Refused, Late, Faults, Memory, Read}
-use Rattle.session_run.proofs.OneStream.{plain-replay}
+use Rattle.session_run.specs.ReplayOutcomes.{Begins, HasOtherStart, HasBadHeader, HasLateHeader, EndsInCommand, HasFault, FaultsAt, Stops, IsReplayed}
+use Rattle.session_run.specs.Statuses.{status_of_end}
+use Rattle.session_run.specs.declared.replay_end.ReplayEnd.{ReplayEnd}
+use Rattle.session_run.specs.declared.replay_end.ReplayEnd.TheVariants.{Truncated, Magic, Version, Refused, Late, Faults, Memory, Read}
+use Rattle.session_run.proofs.OneStream.{said-replay}
 use Rattle.session_run.proofs.Playing.{length-stream}
 
 -- what is left of commands after some that begin them
@@ -27,7 +28,7 @@ record RestOf (done todo : List Command) (rest : List ℕ) : Type 0 where
   later : List Command
   fits : All Fits later
   left : rest ≡ flat_map command_encoding later
-  same : map plain todo ≡ map plain (done ++ later)
+  same : map parts_of todo ≡ map parts_of (done ++ later)
 
 rest_of : (done todo : List Command) (rest : List ℕ) → All Fits done → All Fits todo → flat_map command_encoding done ++ rest ≡ flat_map command_encoding todo → RestOf done todo rest
 rest_of [] todo rest took fits e = record { later = todo; fits = fits; left = e; same = refl }
@@ -41,7 +42,7 @@ rest_of (c ∷ done) (d ∷ todo) rest took fits e =
       later = more.later;
       fits = more.fits;
       left = more.left;
-      same = ap (λ h. h ∷ map plain todo) (sym one.command) ∙ ap (λ t. plain c ∷ t) more.same;
+      same = ap (λ h. h ∷ map parts_of todo) (sym one.command) ∙ ap (λ t. parts_of c ∷ t) more.same;
     }
 
 -- what is left of a stream after commands that begin it
@@ -57,10 +58,10 @@ fault-of commands number code fits h =
     let next : RestOf (h.command ∷ []) r.later h.more =
     rest_of (h.command ∷ []) r.later h.more (All-cons Fits h.command [] h.fits (All-nil Fits)) r.fits
     (ap (λ l. l ++ h.more) (append-nil (command_encoding h.command)) ∙ sym h.next ∙ r.left) in
-    let same : map plain commands ≡ map plain (h.begins.commands ++ h.command ∷ next.later) =
-    r.same ∙ map-append plain h.begins.commands r.later ∙ ap (λ l. map plain h.begins.commands ++ l) next.same ∙ sym (map-append plain h.begins.commands (h.command ∷ next.later)) in
+    let same : map parts_of commands ≡ map parts_of (h.begins.commands ++ h.command ∷ next.later) =
+    r.same ∙ map-append parts_of h.begins.commands r.later ∙ ap (λ l. map parts_of h.begins.commands ++ l) next.same ∙ sym (map-append parts_of h.begins.commands (h.command ∷ next.later)) in
     let one : replay first_driver commands ≡ replay first_driver (h.begins.commands ++ h.command ∷ next.later) =
-    sym (plain-replay first_driver commands) ∙ ap (replay first_driver) same ∙ plain-replay first_driver (h.begins.commands ++ h.command ∷ next.later) in
+    said-replay first_driver commands (h.begins.commands ++ h.command ∷ next.later) same in
     subst (λ (r : Replayed). FaultsAt r number code) (sym one) (h.faults next.later)
 
 -- commands that aren't none have a header

@@ -23,9 +23,9 @@ use Rattle.session_run.specs.Tallies.{tally_of}
 use Rattle.session_run.specs.ReplayOutcomes.{Begins, HasOtherMagic, Stops, IsLeft, CountedStream}
 use Rattle.session_run.specs.Playing.{SoFar, PieceStops, HasMagic, ReadSoFar, ReadWhole, ReadUntil, ReadsOn, IsEndedBy}
 use Rattle.session_run.specs.declared.tally.Tally.{Tally}
-use Rattle.session_run.specs.declared.replay.TheConstants.{STREAM_MAGIC}
-use Rattle.session_run.specs.declared.replay.ReplayEnd.{ReplayEnd}
-use Rattle.session_run.specs.declared.replay.ReplayEnd.TheVariants.{Truncated, Magic, Version, Refused, Late, Faults, Memory, Read}
+use Rattle.session_run.specs.declared.pieces.TheConstants.{STREAM_MAGIC}
+use Rattle.session_run.specs.declared.replay_end.ReplayEnd.{ReplayEnd}
+use Rattle.session_run.specs.declared.replay_end.ReplayEnd.TheVariants.{Truncated, Magic, Version, Refused, Late, Faults, Memory, Read}
 use Rattle.session_run.proofs.OneStream.{one-replay}
 use Rattle.session_run.proofs.Playing.{begins-here, bytes-started, bytes-idle}
 

@@ -20,8 +20,8 @@ use Rattle.es2_replay.specs.Applied.{Applies}
 use Rattle.session_run.specs.Tallies.{add, tally_of}
 use Rattle.session_run.specs.ReplayOutcomes.{HeadersWithin, HasOtherStart, HasBadHeader, HasLateHeader, HasFault, Stops, fault_code}
 use Rattle.session_run.specs.declared.tally.Tally.{Tally}
-use Rattle.session_run.specs.declared.replay.ReplayEnd.{ReplayEnd}
-use Rattle.session_run.specs.declared.replay.ReplayEnd.TheVariants.{Truncated, Magic, Version, Refused, Late, Faults, Memory, Read}
+use Rattle.session_run.specs.declared.replay_end.ReplayEnd.{ReplayEnd}
+use Rattle.session_run.specs.declared.replay_end.ReplayEnd.TheVariants.{Truncated, Magic, Version, Refused, Late, Faults, Memory, Read}
 
 -- these bytes were taken: they are commands that the machine applied without a fault and counted, and a part of the next
 pub record SoFar (all : List ℕ) (decoder : DecoderState) (kept : Kept) (tally : Tally) : Type 0 where

@@ -9,16 +9,17 @@ use Rattle.call_records.specs.declared.reading.TheConstants.{INPUT_MAX}
 use Rattle.command_stream.specs.declared.operation.TheConstants.{START_BYTES, HEADER_BYTES}
 use Rattle.command_stream.specs.declared.command.Command.{Command}
 use Rattle.command_stream.specs.Commands.{command_encoding, stream_start, stream}
-use Rattle.command_stream.specs.Plain.{Fits, plain}
+use Rattle.command_stream.specs.Commands.{Fits, parts_of}
 use Rattle.command_stream.specs.DecoderState.{IsPartOfCommand, IsRefused}
 use Rattle.gl_model.specs.DriverState.{first_driver}
 use Rattle.gl_model.specs.DriverStep.{Fault, gl_error, outside_fetch}
 use Rattle.gl_model.specs.Replay.{Replayed, replay}
 use Rattle.session_run.specs.Outcomes.{ReplaysTo}
+use Rattle.session_run.specs.Statuses.{status_of_end}
 use Rattle.session_run.specs.Tallies.{tally_of, line_of}
 use Rattle.session_run.specs.declared.tally.Tally.{Tally}
-use Rattle.session_run.specs.declared.replay.ReplayEnd.{ReplayEnd}
-use Rattle.session_run.specs.declared.replay.ReplayEnd.TheVariants.{Truncated, Magic, Version, Refused, Late, Faults, Memory, Read}
+use Rattle.session_run.specs.declared.replay_end.ReplayEnd.{ReplayEnd}
+use Rattle.session_run.specs.declared.replay_end.ReplayEnd.TheVariants.{Truncated, Magic, Version, Refused, Late, Faults, Memory, Read}
 
 -- the header of each of these commands ends by byte 2^62 of their stream
 abbrev pub HeadersWithin : List Command → Type 0
@@ -121,7 +122,7 @@ pub record WholeStream (input left : List ℕ) : Type 0 where
   pub commands : List Command
   pub fits : All Fits commands
   pub whole : input ≡ stream commands
-  pub only : (others : List Command) → All Fits others → input ≡ stream others → map plain others ≡ map plain commands
+  pub only : (others : List Command) → All Fits others → input ≡ stream others → map parts_of others ≡ map parts_of commands
   pub within : HeadersWithin commands
   pub faultless : (replay first_driver commands).fault ≡ None
   pub from_bytes : ReplaysTo input (replay first_driver commands).shots
@@ -144,17 +145,6 @@ pub record PartlyToldStream (out0 out : Option (List ℕ)) (input left : List �
   pub said : ℕ
   pub said_within : said ≤ length (line_of (replay first_driver stream_is.commands))
   pub told : out ≡ append_known out0 (take said (line_of (replay first_driver stream_is.commands)))
-
--- the status of a replay that stopped: its kind by number, and its place
-abbrev pub status_of_end : ReplayEnd → Statuses.Status
-status_of_end (Truncated at) = Status.Truncated at
-status_of_end Magic = Status.BadInput 0 2
-status_of_end Version = Status.BadInput 4 3
-status_of_end (Refused at) = Status.BadInput at 4
-status_of_end (Late at) = Status.BadInput at 9
-status_of_end (Faults number code) = Status.ReplayFault number code
-status_of_end Memory = Status.OutOfMemory
-status_of_end Read = Status.ReadFault
 
 -- a replay stopped in a way that has this status
 pub record StoppedAs (status : Statuses.Status) (input left : List ℕ) : Type 0 where

@@ -1,15 +1,15 @@
-//! Sessions of WebGL 1.0 calls: the page's machine, what each call sends to an OpenGL ES 2.0 driver, the run of a whole
-//! session from bytes to bytes, and the replay of a stream. The contract in one sentence: the replies are the page machine's,
-//! one for each call, and the commands sent replay on the driver's machine without a fault to exactly the page's draws,
-//! clears and builds.
+//! Sessions of WebGL 1.0 calls: the run of a whole session from bytes to bytes over a context, and the replay of a stream. The
+//! contract in one sentence: the replies are the page machine's, one for each call, and the commands sent replay on the
+//! driver's machine without a fault to exactly the page's draws, clears and builds.
 #![tactic(auto)]
 
-mod buffer_calls;
-mod errors;
-mod object_calls;
-mod page;
+mod applying;
+mod kinds;
+mod line;
+mod pieces;
+mod records;
 mod replay;
-mod sending;
+mod replay_end;
 mod session;
 mod tally;
 

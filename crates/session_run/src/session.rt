@@ -1,93 +1,54 @@
-ghost use Rattle.std.specs.Prelude.{◌≡◌, ◌+◌, ◌≤◌, ◌^◌, List, Some, All, length, IfErr};
+ghost use Rattle.std.specs.Prelude.{◌≡◌, ◌≤◌, ◌^◌, List, Option, Some, ℕ, All, length};
+ghost use Rattle.std.specs.Io.KnownBytes.{append_known};
 ghost use Rattle.call_records.specs.Records.{Fits, session};
 ghost use Rattle.call_records.specs.declared.calls.Call as Calls;
-ghost use Rattle.gl_model.specs.PageState.{PageState, first_page};
-ghost use Rattle.session_run.specs.Stands.{Keeps, IsKept};
-ghost use Rattle.session_run.specs.Sessions.{AnswersOne, RunsRecords, IsRecordsEnd};
-ghost use Rattle.session_run.specs.Outcomes.{Did, Outcome, WhereAllTold, ReadsAs, Untouched, IsSessionStatus, IsComplete, status_of};
-ghost use Rattle.session_run.specs.Causes.{AnswerCause, RunCause, Finishes, SessionCause, Faultless};
+ghost use Rattle.command_stream.specs.Commands.{stream_start};
+ghost use Rattle.gl_model.specs.PageState.{first_page};
+ghost use Rattle.gl_model.specs.DriverState.{first_driver};
+ghost use Rattle.gl_context.specs.Stands.{Stands};
+ghost use Rattle.session_run.specs.Ends.{ends, faults_of};
+ghost use Rattle.session_run.specs.Statuses.{status_of};
+ghost use Rattle.session_run.specs.Reads.{ReadsAs, SessionReads};
+ghost use Rattle.session_run.specs.Outcomes.{Did, Outcome, WhereAllTold, Untouched, IsSessionStatus, IsComplete};
+ghost use Rattle.session_run.specs.Causes.{RunCause, Finishes, SessionCause, Faultless};
 
-use crate::page::Page;
-use call_records::{Call, ReadEnd, RecordBuf, Step, read_call, read_start, write_reply};
-use command_stream::write_start;
-use gl_numbers::Memory;
+use crate::kinds::{
+    KIND_AFTER_END, KIND_BODY_LONG, KIND_BODY_SHAPE, KIND_HEADER_LATE, KIND_MAGIC, KIND_OPERATION,
+    KIND_VERSION,
+};
+use crate::records::{RunEnd, run_records};
+use call_records::{ReadEnd, RecordBuf, read_start};
+use gl_context::{Context, Open};
 use std::alloc::Global;
-use wire_io::{Failed, Sink, Source, Status};
+use std::marker::Brand;
+use std::sync::ledger::{Blank, Ledger};
+use step_count::Steps;
+use wire_io::{Sink, Source, Status};
 
-/// Why a session was not run to its end.
-#[derive(Clone, Copy, Debug, PartialEq, Eq)]
-pub enum RunEnd {
-    /// No further record was read.
-    Read(ReadEnd),
-    /// A sink failed.
-    Write,
-}
-
-/// Answers one call: sends its commands, and then writes its reply.
-#[tactic(auto, using(crate::proofs::Answering::answered_one))]
-fn answer<O: Sink, T: Sink>(
-    page: &mut Page,
-    call: &Call<'_>,
-    out: &mut O,
-    stream: &mut T,
-) -> Result<(), Failed>
-    requires fits { Fits call.now }
-    requires kept { IsKept page.old }
-    ensures answers { (w : PageState) → Keeps page.old w → AnswersOne w call.now page.new (O.held out.old) (O.held out.new) (T.held stream.old) (T.held stream.new) result }
-    ensures cause { AnswerCause (O.faults out.old) (O.faults out.new) (T.faults stream.old) (T.faults stream.new) result }
-{
-    let Ok(reply) = page.apply(call, stream) else {
-        return Err(Failed);
-    };
-    write_reply(&reply, out)
-}
-
-/// Answers the records of a session, of which the header was taken, up to its end.
-fn run_records<S: Source, O: Sink, T: Sink>(
-    page: &mut Page,
+/// Runs a session whose stream's header was written: reads its header, and then reads, answers and sends.
+#[tactic(auto, using(crate::proofs::Telling::told_records, crate::proofs::Telling::told_start))]
+fn run_opened<S: Source, O: Sink, T: Sink, L: Ledger>(
+    context: &mut Context,
     buf: &mut RecordBuf,
     input: &mut S,
     out: &mut O,
     stream: &mut T,
+    blank: Blank,
 ) -> Result<(), RunEnd>
-    requires { Keeps page.old first_page }
-    ensures runs { RunsRecords (S.left input.old) (S.left input.new) (O.held out.old) (O.held out.new) (T.held stream.old) (T.held stream.new) result }
-    ensures cause { RunCause (S.faults input.old) (S.faults input.new) (O.faults out.old) (O.faults out.new) (T.faults stream.old) (T.faults stream.new) result }
-    ensures never { IfErr result IsRecordsEnd }
-{
-    let mut at: u64 = 8;
-    loop {
-        match read_call(input, at, buf) {
-            Ok(Step::End) => return Ok(()),
-            Ok(Step::Call(call)) => {
-                at += call.size() as u64;
-                let Ok(()) = answer(page, &call, out, stream) else {
-                    return Err(RunEnd::Write);
-                };
-            }
-            Err(end) => return Err(RunEnd::Read(end)),
-        }
-    }
-}
-
-/// Runs a session with a buffer for its records: writes the stream's header, and then reads, answers and sends.
-#[tactic(auto, using(crate::proofs::Telling::told_records, crate::proofs::Telling::told_start, crate::proofs::Telling::told_header))]
-fn run_with<S: Source, O: Sink, T: Sink>(
-    alloc: Global,
-    buf: &mut RecordBuf,
-    input: &mut S,
-    out: &mut O,
-    stream: &mut T,
-) -> Result<(), RunEnd>
-    ensures did { WhereAllTold (Did result) (S.left input.old) (S.left input.new) (O.held out.old) (O.held out.new) (T.held stream.old) (T.held stream.new) }
+    requires stands { Stands context.old first_page first_driver }
+    requires name { blank.name ≡ L.name }
+    requires parts { blank.parts ≡ L.parts }
+    requires two { L.parts ≡ 2 }
+    ensures did { (unopened : Option (List ℕ)) → T.held stream.old ≡ append_known unopened stream_start
+        → WhereAllTold (Did result) (ends (S.left input.old) (O.held out.old) unopened)
+        (ends (S.left input.new) (O.held out.new) (T.held stream.new)) }
     ensures reads { ReadsAs result (S.left input.old) (S.left input.new) }
-    ensures cause { RunCause (S.faults input.old) (S.faults input.new) (O.faults out.old) (O.faults out.new) (T.faults stream.old) (T.faults stream.new) result }
+    ensures cause { RunCause (faults_of (S.faults input.old) (O.faults out.old) (T.faults stream.old))
+        (faults_of (S.faults input.new) (O.faults out.new) (T.faults stream.new)) result }
 {
-    let Ok(()) = write_start(stream) else {
-        return Err(RunEnd::Write);
-    };
+    let mut steps = Steps::<L>::start(blank);
     match read_start(input) {
-        Ok(()) => run_records(&mut Page::new(alloc), buf, input, out, stream),
+        Ok(()) => run_records(context, buf, input, out, stream, &mut steps),
         Err(end) => Err(RunEnd::Read(end)),
     }
 }
@@ -96,24 +57,26 @@ fn run_with<S: Source, O: Sink, T: Sink>(
 fn status_of(end: ReadEnd) -> Status
     ensures { result ≡ status_of end }
 {
-    match end {
-        ReadEnd::Truncated(at) => Status::Truncated { at },
-        ReadEnd::Magic(at) => Status::BadInput { at, kind: 2 },
-        ReadEnd::Version(at) => Status::BadInput { at, kind: 3 },
-        ReadEnd::UnknownOp(at) => Status::BadInput { at, kind: 4 },
-        ReadEnd::BodyLong(at) => Status::BadInput { at, kind: 5 },
-        ReadEnd::BodyShape(at) => Status::BadInput { at, kind: 6 },
-        ReadEnd::AfterEnd(at) => Status::BadInput { at, kind: 7 },
-        ReadEnd::InputLong(at) => Status::BadInput { at, kind: 9 },
-        ReadEnd::ReadFault => Status::ReadFault,
-    }
+    let (at, kind) = match end {
+        ReadEnd::Truncated(at) => return Status::Truncated { at },
+        ReadEnd::ReadFault => return Status::ReadFault,
+        ReadEnd::Magic(at) => (at, KIND_MAGIC),
+        ReadEnd::Version(at) => (at, KIND_VERSION),
+        ReadEnd::UnknownOp(at) => (at, KIND_OPERATION),
+        ReadEnd::BodyLong(at) => (at, KIND_BODY_LONG),
+        ReadEnd::BodyShape(at) => (at, KIND_BODY_SHAPE),
+        ReadEnd::AfterEnd(at) => (at, KIND_AFTER_END),
+        ReadEnd::InputLong(at) => (at, KIND_HEADER_LATE),
+    };
+    Status::BadInput { at, kind }
 }
 
-/// Flushes both sinks, the stream first, and answers the status, or WriteFault where a flush failed.
+/// Flushes both sinks, the stream first, and returns the status, or WriteFault where a flush failed.
 fn finish<O: Sink, T: Sink>(status: Status, out: &mut O, stream: &mut T) -> Status
     ensures replies { O.held out.new ≡ O.held out.old }
     ensures commands { T.held stream.new ≡ T.held stream.old }
-    ensures finishes { Finishes (O.handed_on out.new) (T.handed_on stream.new) (O.faults out.old) (O.faults out.new) (T.faults stream.old) (T.faults stream.new) status result }
+    ensures finishes { Finishes (O.handed_on out.new) (T.handed_on stream.new)
+        (O.faults out.old) (O.faults out.new) (T.faults stream.old) (T.faults stream.new) status result }
 {
     let sent = stream.flush();
     let answered = out.flush();
@@ -123,24 +86,48 @@ fn finish<O: Sink, T: Sink>(status: Status, out: &mut O, stream: &mut T) -> Stat
     status
 }
 
-/// Runs a session: takes the memory for its records, writes the stream's header, reads each call, sends its
-/// commands and then writes its reply, and flushes both sinks at the end.
+/// Runs a session: takes the memory for its records, opens the context, which writes the stream's header, and only then reads:
+/// the session's header, and each call, of which it sends the commands and then writes the reply. It flushes both sinks at
+/// the end.
 pub fn run_session<S: Source, O: Sink, T: Sink>(
     alloc: Global,
     input: &mut S,
     out: &mut O,
     stream: &mut T,
 ) -> Status
-    ensures outcome { WhereAllTold (Outcome result) (S.left input.old) (S.left input.new) (O.held out.old) (O.held out.new) (T.held stream.old) (T.held stream.new) }
-    ensures cause { SessionCause (O.handed_on out.new) (T.handed_on stream.new) (S.faults input.old) (S.faults input.new) (O.faults out.old) (O.faults out.new) (T.faults stream.old) (T.faults stream.new) result }
-    ensures unopened { result ≡ Status.OutOfMemory → Untouched (S.left input.old) (S.left input.new) (O.held out.old) (O.held out.new) (T.held stream.old) (T.held stream.new) }
+    // where all three tell their bytes: what was read, and the replies and commands that were written for it
+    ensures outcome { WhereAllTold (Outcome result) (ends (S.left input.old) (O.held out.old) (T.held stream.old))
+        (ends (S.left input.new) (O.held out.new) (T.held stream.new)) }
+    // where the source tells its bytes: what was read, and why it was refused
+    ensures reads { SessionReads result (S.left input.old) (S.left input.new) }
+    ensures cause { SessionCause (O.handed_on out.new) (T.handed_on stream.new)
+        (faults_of (S.faults input.old) (O.faults out.old) (T.faults stream.old))
+        (faults_of (S.faults input.new) (O.faults out.new) (T.faults stream.new)) result }
+    ensures unopened { result ≡ Status.OutOfMemory → Untouched (ends (S.left input.old) (O.held out.old) (T.held stream.old))
+        (ends (S.left input.new) (O.held out.new) (T.held stream.new)) }
     ensures never { IsSessionStatus result }
-    ensures complete { (calls : List Calls.Call) → All Fits calls → S.left input.old ≡ Some (session calls) → length (session calls) ≤ 2 ^ 62 → Faultless (S.faults input.old) (S.faults input.new) (O.faults out.old) (O.faults out.new) (T.faults stream.old) (T.faults stream.new) → IsComplete result }
+    ensures complete { (calls : List Calls.Call) → All Fits calls → S.left input.old ≡ Some (session calls)
+        → length (session calls) ≤ 2 ^ 62
+        → Faultless (faults_of (S.faults input.old) (O.faults out.old) (T.faults stream.old))
+        (faults_of (S.faults input.new) (O.faults out.new) (T.faults stream.new)) → IsComplete result }
 {
-    let ended = match RecordBuf::make(alloc) {
-        Ok(mut buf) => run_with(alloc, &mut buf, input, out, stream),
-        Err(Memory) => return finish(Status::OutOfMemory, out, stream),
+    let mut buf = match RecordBuf::make(alloc) {
+        Ok(buf) => buf,
+        Err(_) => return finish(Status::OutOfMemory, out, stream),
     };
+    let mut context = match Context::open(alloc, stream) {
+        Ok(context) => context,
+        Err(Open::Memory) => return finish(Status::OutOfMemory, out, stream),
+        Err(Open::Write) => return Status::WriteFault,
+    };
+    let ended = run_opened::<S, O, T, Brand>(
+        &mut context,
+        &mut buf,
+        input,
+        out,
+        stream,
+        Blank::new(2),
+    );
     let Err(why) = ended else {
         return finish(Status::Ok, out, stream);
     };

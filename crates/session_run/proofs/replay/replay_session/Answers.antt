@@ -18,7 +18,7 @@ returns-in-Err-clause-complete g c = λ commands fits e short input_stood out_st
     let ends = ends_as commands c.in-Err.end fits short b.holds.0 in
     elim c.finish.ensures.finishes.cases [
       | inl stood ↦
-          subst (λ (s : Statuses.Status). IsReplayed commands s) (sym (stood.0 ∙ c.status_of.ensures))
+          subst (λ (s : Statuses.Status). IsReplayed commands s) (sym (stood.0 ∙ c.status.ensures))
           (replayed_as commands c.in-Err.end ends (λ is. input_stood (c.replay_all.ensures.cause.read (c.in-Err.is ∙ ap Err is))))
       | inr failed ↦ absurd (out_stood failed.1)
     ])
@@ -27,6 +27,6 @@ pub returns-in-Err-clause-no_fault : goal.returns-in-Err-clause-no_fault
 returns-in-Err-clause-no_fault g c = λ commands fits e faultless number code is.
     (let b = both (λ old new. Stops old c.in-Err.end × IsLeft c.in-Err.end new) (stream commands) _ _ e c.in-Err.ensures.played in
     elim c.finish.ensures.finishes.cases [
-      | inl stood ↦ not-faulted commands c.in-Err.end number code fits b.holds.0 faultless (sym (stood.0 ∙ c.status_of.ensures) ∙ is)
+      | inl stood ↦ not-faulted commands c.in-Err.end number code fits b.holds.0 faultless (sym (stood.0 ∙ c.status.ensures) ∙ is)
       | inr failed ↦ (let no : Status.WriteFault ≡ Status.ReplayFault number code = sym failed.0 ∙ is in absurd cc)
     ])

@@ -34,3 +34,15 @@ returns-then-names_run-clause-after_write_fault g c = λ named e. (rw e at c.run
 
 pub returns-then-names_run-clause-no_replay : goal.returns-then-names_run-clause-no_replay
 returns-then-names_run-clause-no_replay g c = λ named command code e. subst IsSessionStatus e c.run_session.ensures.never
+
+pub returns-then-names_run-clause-read_whole : goal.returns-then-names_run-clause-read_whole
+returns-then-names_run-clause-read_whole g c = λ named e. (rw e at c.run_session.ensures.reads)
+
+pub returns-then-names_run-clause-bad_input_read : goal.returns-then-names_run-clause-bad_input_read
+returns-then-names_run-clause-bad_input_read g c = λ named at kind e. (rw e at c.run_session.ensures.reads)
+
+pub returns-then-names_run-clause-truncated_read : goal.returns-then-names_run-clause-truncated_read
+returns-then-names_run-clause-truncated_read g c = λ named at e. (rw e at c.run_session.ensures.reads)
+
+pub returns-then-names_run-clause-before_read_fault : goal.returns-then-names_run-clause-before_read_fault
+returns-then-names_run-clause-before_read_fault g c = λ named e. (rw e at c.run_session.ensures.reads)
