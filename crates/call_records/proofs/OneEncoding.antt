@@ -14,11 +14,14 @@ use Rattle.gl_numbers.proofs.Bytes.{length-le32, length-le64, Same, le32-one}
 use Rattle.call_records.specs.declared.operations.TheConstants.{CLOSE, BODY_MAX}
 use Rattle.call_records.specs.declared.operations.Operation.{Operation}
 use Rattle.call_records.specs.declared.operations.Operation.TheVariants as Op
-use Rattle.call_records.specs.declared.calls.New.TheVariants.{Buffer}
-use Rattle.call_records.specs.declared.calls.Fill.TheVariants.{Size, Bytes}
-use Rattle.gl_numbers.specs.declared.kinds.Kind.TheVariants as Kinds
+use Rattle.call_records.specs.declared.object_calls.New.TheVariants as New
+use Rattle.call_records.specs.declared.object_calls.ObjectKind.TheVariants as Kind
+use Rattle.call_records.specs.declared.object_calls.ObjectCall.TheVariants.{Create, Delete, IsKind}
+use Rattle.call_records.specs.declared.buffer_calls.Fill.TheVariants.{Size, Bytes}
+use Rattle.call_records.specs.declared.buffer_calls.BufferCall.TheVariants.{BindBuffer, BufferData, BufferSubData, GetBufferParameter}
+use Rattle.call_records.specs.declared.query_calls.QueryCall.TheVariants.{GetError}
 use Rattle.call_records.specs.declared.calls.Call.{Call}
-use Rattle.call_records.specs.declared.calls.Call.TheVariants.{Create, Delete, IsKind, BindBuffer, BufferData, BufferSubData, GetBufferParameter, GetError}
+use Rattle.call_records.specs.declared.calls.Call.TheVariants.{Object, Buffer, Query}
 use Rattle.call_records.specs.Operations.{number_of, operation_numbered, is_known, has_shape}
 use Rattle.call_records.specs.Records.{operation_of, op_of, body_of, encoding, HasWords, Fits, plain, session_start, closing_record, session}
 use Rattle.call_records.specs.declared.reading.TheConstants.{INPUT_MAX, SESSION_MAGIC, SESSION_VERSION}
@@ -42,35 +45,35 @@ long-again z fits = rw (from_le_bytes-to_le_bytes_8 (cast_unsigned w64 z) ((Fits
 
 -- the call of an operation with this body, its tail lying nowhere
 call_for : Operation → List ℕ → Call
-call_for Op.CreateBuffer body = Create Buffer
-call_for Op.DeleteBuffer body = Delete Kinds.Buffer (word body)
-call_for Op.IsBuffer body = IsKind Kinds.Buffer (word body)
-call_for Op.BindBuffer body = BindBuffer (word body) (word (drop 4 body))
-call_for Op.BufferSize body = BufferData (word body) (word (drop 4 body)) (Size (long (drop 8 body)))
+call_for Op.CreateBuffer body = Object (Create New.Buffer)
+call_for Op.DeleteBuffer body = Object (Delete Kind.Buffer (word body))
+call_for Op.IsBuffer body = Object (IsKind Kind.Buffer (word body))
+call_for Op.BindBuffer body = Buffer (BindBuffer (word body) (word (drop 4 body)))
+call_for Op.BufferSize body = Buffer (BufferData (word body) (word (drop 4 body)) (Size (long (drop 8 body))))
 call_for Op.BufferData body =
-    BufferData (word body) (word (drop 4 body)) (Bytes (record { ref_ptr = (0, 0); now = drop 8 body }))
+    Buffer (BufferData (word body) (word (drop 4 body)) (Bytes (record { ref_ptr = (0, 0); now = drop 8 body })))
 call_for Op.BufferSubData body =
-    BufferSubData (word body) (long (drop 4 body)) (record { ref_ptr = (0, 0); now = drop 12 body })
-call_for Op.GetBufferParameter body = GetBufferParameter (word body) (word (drop 4 body))
-call_for Op.GetError body = GetError
+    Buffer (BufferSubData (word body) (long (drop 4 body)) (record { ref_ptr = (0, 0); now = drop 12 body }))
+call_for Op.GetBufferParameter body = Buffer (GetBufferParameter (word body) (word (drop 4 body)))
+call_for Op.GetError body = Query GetError
 
 -- reading a call's body again gives the call
 again : (call : Call) → HasWords call → call_for (operation_of call) (body_of call) ≡ plain call
 unfolding call_for word long le32 le64
-again (Create Buffer) h = refl
-again (Delete kind handle) h = rw (from_le_bytes-to_le_bytes_4 handle h.1, h.0) refl
-again (IsKind kind handle) h = rw (from_le_bytes-to_le_bytes_4 handle h.1, h.0) refl
-again (BindBuffer target handle) h =
+again (Object (Create New.Buffer)) h = refl
+again (Object (Delete Kind.Buffer handle)) h = rw (from_le_bytes-to_le_bytes_4 handle h) refl
+again (Object (IsKind Kind.Buffer handle)) h = rw (from_le_bytes-to_le_bytes_4 handle h) refl
+again (Buffer (BindBuffer target handle)) h =
     rw (from_le_bytes-to_le_bytes_4 target h.0, from_le_bytes-to_le_bytes_4 handle h.1) refl
-again (BufferData target usage (Size size)) h =
+again (Buffer (BufferData target usage (Size size))) h =
     rw (from_le_bytes-to_le_bytes_4 target h.0, from_le_bytes-to_le_bytes_4 usage h.1, long-again size h.2) refl
-again (BufferData target usage (Bytes tail)) h =
+again (Buffer (BufferData target usage (Bytes tail))) h =
     rw (from_le_bytes-to_le_bytes_4 target h.0, from_le_bytes-to_le_bytes_4 usage h.1) refl
-again (BufferSubData target offset tail) h =
+again (Buffer (BufferSubData target offset tail)) h =
     rw (from_le_bytes-to_le_bytes_4 target h.0, long-again offset h.1) refl
-again (GetBufferParameter target name) h =
+again (Buffer (GetBufferParameter target name)) h =
     rw (from_le_bytes-to_le_bytes_4 target h.0, from_le_bytes-to_le_bytes_4 name h.1) refl
-again GetError h = refl
+again (Query GetError) h = refl
 
 -- each number is of one operation
 numbered : (operation : Operation) → operation_numbered (number_of operation) ≡ Some operation
@@ -150,20 +153,20 @@ known Op.GetError = refl
 -- each call's body has its operation's form
 shape : (call : Call) → has_shape (op_of call) (length (body_of call)) ≡ true
 unfolding operation_numbered
-shape (Create Buffer) = refl
-shape (Delete kind handle) = let size = length-le32 handle in rw size refl
-shape (IsKind kind handle) = let size = length-le32 handle in rw size refl
-shape (BindBuffer target handle) =
+shape (Object (Create New.Buffer)) = refl
+shape (Object (Delete Kind.Buffer handle)) = let size = length-le32 handle in rw size refl
+shape (Object (IsKind Kind.Buffer handle)) = let size = length-le32 handle in rw size refl
+shape (Buffer (BindBuffer target handle)) =
     let size : length (le32 target ++ le32 handle) ≡ 8 = simp (length-append, length-le32) in rw size refl
-shape (BufferData target usage (Size size)) =
+shape (Buffer (BufferData target usage (Size size))) =
     let bytes : length (le32 target ++ (le32 usage ++ le64 size)) ≡ 16 = simp (length-append, length-le32, length-le64) in rw bytes refl
-shape (BufferData target usage (Bytes tail)) =
+shape (Buffer (BufferData target usage (Bytes tail))) =
     le-leb 8 _ (omega (arith, length-append (le32 target) (le32 usage ++ tail.now), length-append (le32 usage) tail.now, length-le32 target, length-le32 usage))
-shape (BufferSubData target offset tail) =
+shape (Buffer (BufferSubData target offset tail)) =
     le-leb 12 _ (omega (arith, length-append (le32 target) (le64 offset ++ tail.now), length-append (le64 offset) tail.now, length-le32 target, length-le64 offset))
-shape (GetBufferParameter target name) =
+shape (Buffer (GetBufferParameter target name)) =
     let size : length (le32 target ++ le32 name) ≡ 8 = simp (length-append, length-le32) in rw size refl
-shape GetError = refl
+shape (Query GetError) = refl
 
 -- a header that nothing refuses, and at least its whole body
 record Prefix (old : List ℕ) : Type 0 where

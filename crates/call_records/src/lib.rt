@@ -3,8 +3,11 @@
 //! answer, each refusal comes exactly at its cause in the bytes, and what is written is the reply's encoding.
 #![tactic(auto)]
 
+mod buffer_calls;
 mod calls;
+mod object_calls;
 mod operations;
+mod query_calls;
 mod reading;
 mod record_buf;
 mod replies;
@@ -15,11 +18,14 @@ mod reply_tests;
 mod tests;
 mod writing;
 
-pub use calls::{Call, Fill, New};
+pub use buffer_calls::{BufferCall, Fill};
+pub use calls::Call;
+pub use object_calls::{New, ObjectCall, ObjectKind};
 pub use operations::{
     BIND_BUFFER, BODY_MAX, BUFFER_DATA, BUFFER_SIZE, BUFFER_SUB_DATA, CLOSE, CREATE_BUFFER,
     DELETE_BUFFER, GET_BUFFER_PARAMETER, GET_ERROR, HEADER_BYTES, IS_BUFFER, Layout, Operation,
 };
+pub use query_calls::QueryCall;
 pub use reading::{
     INPUT_MAX, ReadEnd, SESSION_MAGIC, SESSION_VERSION, Step, read_call, read_start,
 };

@@ -1,7 +1,9 @@
 ghost use Rattle.call_records.specs.Records.{Fits};
 
-use crate::{Call, Fill, New, ReadEnd, RecordBuf, Step, read_call, read_start, write_call};
-use gl_numbers::Kind;
+use crate::{
+    BufferCall, Call, Fill, New, ObjectCall, ObjectKind, QueryCall, ReadEnd, RecordBuf, Step,
+    read_call, read_start, write_call,
+};
 use std::alloc::AllocError;
 use std::test::Fail;
 use wire_io::{MemSink, MemSource};
@@ -45,15 +47,67 @@ fn a_session_is_read_record_by_record(rt: HostRuntime) -> Result<(), Fail> {
     let mut buf = RecordBuf::make(rt.alloc())?;
     assert_eq!(rt; read_start(&mut input), Ok(()));
     for (at, call, size) in [
-        (8, Call::Create(New::Buffer), 8),
-        (16, Call::Delete(Kind::Buffer, 258), 12),
-        (28, Call::IsKind(Kind::Buffer, 3), 12),
-        (40, Call::BindBuffer(0x8892, 1), 16),
-        (56, Call::BufferData(0x8893, 0x88E8, Fill::Size(4096)), 24),
-        (80, Call::BufferData(0x8892, 0x88E4, Fill::Bytes(&TAIL)), 18),
-        (98, Call::BufferSubData(0x8892, 0x1_0000_0002, &TAIL), 22),
-        (120, Call::GetBufferParameter(0x8892, 0x8764), 16),
-        (136, Call::GetError, 8),
+        (8, Call::Object(ObjectCall::Create(New::Buffer)), 8),
+        (
+            16,
+            Call::Object(ObjectCall::Delete {
+                kind: ObjectKind::Buffer,
+                handle: 258,
+            }),
+            12,
+        ),
+        (
+            28,
+            Call::Object(ObjectCall::IsKind {
+                kind: ObjectKind::Buffer,
+                handle: 3,
+            }),
+            12,
+        ),
+        (
+            40,
+            Call::Buffer(BufferCall::BindBuffer {
+                target: 0x8892,
+                handle: 1,
+            }),
+            16,
+        ),
+        (
+            56,
+            Call::Buffer(BufferCall::BufferData {
+                target: 0x8893,
+                usage: 0x88E8,
+                fill: Fill::Size(4096),
+            }),
+            24,
+        ),
+        (
+            80,
+            Call::Buffer(BufferCall::BufferData {
+                target: 0x8892,
+                usage: 0x88E4,
+                fill: Fill::Bytes(&TAIL),
+            }),
+            18,
+        ),
+        (
+            98,
+            Call::Buffer(BufferCall::BufferSubData {
+                target: 0x8892,
+                offset: 0x1_0000_0002,
+                bytes: &TAIL,
+            }),
+            22,
+        ),
+        (
+            120,
+            Call::Buffer(BufferCall::GetBufferParameter {
+                target: 0x8892,
+                name: 0x8764,
+            }),
+            16,
+        ),
+        (136, Call::Query(QueryCall::GetError), 8),
     ] {
         let Ok(Step::Call(read)) = read_call(&mut input, at, &mut buf) else {
             return Err(Fail::from("no call"));
@@ -88,7 +142,10 @@ fn a_record_is_refused_at_its_first_cause(rt: HostRuntime) -> Result<(), Fail> {
     let last = 0x4000_0000_0000_0000 - 7;
     let mut input = source(&rt, &[0x56, 0, 0, 0, 0, 0, 0, 0], &[])?;
     assert!(rt; read_call(&mut input, last, &mut buf) == Err(ReadEnd::InputLong(last)));
-    assert!(rt; read_call(&mut input, last - 1, &mut buf) == Ok(Step::Call(Call::GetError)));
+    assert!(rt;
+        read_call(&mut input, last - 1, &mut buf)
+            == Ok(Step::Call(Call::Query(QueryCall::GetError)))
+    );
     Ok(())
 }
 
@@ -182,12 +239,20 @@ fn sizes_and_offsets_have_a_sign(rt: HostRuntime) -> Result<(), Fail> {
         let mut record = [0u8; 24];
         record[..16].copy_from_slice(&SESSION[56..72]);
         record[16..].copy_from_slice(&bytes);
-        let call = Call::BufferData(0x8893, 0x88E8, Fill::Size(number));
+        let call = Call::Buffer(BufferCall::BufferData {
+            target: 0x8893,
+            usage: 0x88E8,
+            fill: Fill::Size(number),
+        });
         assert!(rt; stands_for(&rt, &mut buf, &record, &call)?, "{number}");
         let mut record = [0u8; 22];
         record.copy_from_slice(&SESSION[98..120]);
         record[12..20].copy_from_slice(&bytes);
-        let call = Call::BufferSubData(0x8892, number, &TAIL);
+        let call = Call::Buffer(BufferCall::BufferSubData {
+            target: 0x8892,
+            offset: number,
+            bytes: &TAIL,
+        });
         assert!(rt; stands_for(&rt, &mut buf, &record, &call)?, "{number}");
     }
     Ok(())
@@ -248,19 +313,67 @@ fn writes(rt: &HostRuntime, call: &Call<'_>, bytes: &[u8]) -> Result<bool, Alloc
 #[test]
 #[tactic(auto, using(crate::proofs::Lengths::lengths))]
 fn each_kind_of_call_is_written(rt: HostRuntime) -> Result<(), Fail> {
-    let sized = Call::BufferData(0x8893, 0x88E8, Fill::Size(4096));
-    let data = Call::BufferData(0x8892, 0x88E4, Fill::Bytes(&TAIL));
-    let part = Call::BufferSubData(0x8892, 0x1_0000_0002, &TAIL);
-    let parameter = Call::GetBufferParameter(0x8892, 0x8764);
-    assert!(rt; writes(&rt, &Call::Create(New::Buffer), &SESSION[8..16])?);
-    assert!(rt; writes(&rt, &Call::Delete(Kind::Buffer, 258), &SESSION[16..28])?);
-    assert!(rt; writes(&rt, &Call::IsKind(Kind::Buffer, 3), &SESSION[28..40])?);
-    assert!(rt; writes(&rt, &Call::BindBuffer(0x8892, 1), &SESSION[40..56])?);
+    let sized = Call::Buffer(BufferCall::BufferData {
+        target: 0x8893,
+        usage: 0x88E8,
+        fill: Fill::Size(4096),
+    });
+    let data = Call::Buffer(BufferCall::BufferData {
+        target: 0x8892,
+        usage: 0x88E4,
+        fill: Fill::Bytes(&TAIL),
+    });
+    let part = Call::Buffer(BufferCall::BufferSubData {
+        target: 0x8892,
+        offset: 0x1_0000_0002,
+        bytes: &TAIL,
+    });
+    let parameter = Call::Buffer(BufferCall::GetBufferParameter {
+        target: 0x8892,
+        name: 0x8764,
+    });
+    assert!(rt;
+        writes(
+            &rt,
+            &Call::Object(ObjectCall::Create(New::Buffer)),
+            &SESSION[8..16]
+        )?
+    );
+    assert!(rt;
+        writes(
+            &rt,
+            &Call::Object(ObjectCall::Delete {
+                kind: ObjectKind::Buffer,
+                handle: 258
+            }),
+            &SESSION[16..28]
+        )?
+    );
+    assert!(rt;
+        writes(
+            &rt,
+            &Call::Object(ObjectCall::IsKind {
+                kind: ObjectKind::Buffer,
+                handle: 3
+            }),
+            &SESSION[28..40]
+        )?
+    );
+    assert!(rt;
+        writes(
+            &rt,
+            &Call::Buffer(BufferCall::BindBuffer {
+                target: 0x8892,
+                handle: 1
+            }),
+            &SESSION[40..56]
+        )?
+    );
     assert!(rt; writes(&rt, &sized, &SESSION[56..80])?);
     assert!(rt; writes(&rt, &data, &SESSION[80..98])?);
     assert!(rt; writes(&rt, &part, &SESSION[98..120])?);
     assert!(rt; writes(&rt, &parameter, &SESSION[120..136])?);
-    assert!(rt; writes(&rt, &Call::GetError, &SESSION[136..144])?);
+    assert!(rt; writes(&rt, &Call::Query(QueryCall::GetError), &SESSION[136..144])?);
     Ok(())
 }
 
@@ -276,8 +389,16 @@ fn stops_after(rt: &HostRuntime, call: &Call<'_>, prefix: &[u8]) -> Result<bool,
 #[test]
 #[tactic(auto, using(crate::proofs::Lengths::lengths))]
 fn a_failing_sink_holds_a_front_of_the_record(rt: HostRuntime) -> Result<(), Fail> {
-    let data = Call::BufferData(0x8892, 0x88E4, Fill::Bytes(&TAIL));
-    let part = Call::BufferSubData(0x8892, 0x1_0000_0002, &TAIL);
+    let data = Call::Buffer(BufferCall::BufferData {
+        target: 0x8892,
+        usage: 0x88E4,
+        fill: Fill::Bytes(&TAIL),
+    });
+    let part = Call::Buffer(BufferCall::BufferSubData {
+        target: 0x8892,
+        offset: 0x1_0000_0002,
+        bytes: &TAIL,
+    });
     assert!(rt; stops_after(&rt, &data, &SESSION[80..96])?);
     assert!(rt; stops_after(&rt, &part, &SESSION[98..118])?);
     Ok(())

@@ -3,14 +3,18 @@ ghost use Rattle.gl_numbers.specs.Bytes.{le32, le64};
 ghost use Rattle.wire_io.specs.Faults.{HasCause};
 ghost use Rattle.wire_io.specs.Sinks.{Sends};
 ghost use Rattle.call_records.specs.Records.{Fits, encoding};
-ghost use Rattle.call_records.specs.declared.calls.Call.TheVariants.{BufferData, BufferSubData};
-ghost use Rattle.call_records.specs.declared.calls.Fill.TheVariants.{Size, Bytes};
+ghost use Rattle.call_records.specs.declared.calls.Call.TheVariants.{Buffer};
+ghost use Rattle.call_records.specs.declared.buffer_calls.BufferCall.TheVariants.{BufferData, BufferSubData};
+ghost use Rattle.call_records.specs.declared.buffer_calls.Fill.TheVariants.{Size, Bytes};
 
-use crate::calls::{Call, Fill, New};
+use crate::buffer_calls::{BufferCall, Fill};
+use crate::calls::Call;
+use crate::object_calls::{New, ObjectCall, ObjectKind};
 use crate::operations::{
     BIND_BUFFER, BUFFER_DATA, BUFFER_SIZE, BUFFER_SUB_DATA, CREATE_BUFFER, DELETE_BUFFER,
     GET_BUFFER_PARAMETER, GET_ERROR, IS_BUFFER,
 };
+use crate::query_calls::QueryCall;
 use gl_numbers::{four_words, three_words, two_words};
 use wire_io::{Failed, Sink, write_all};
 
@@ -31,7 +35,7 @@ fn three_words_and_long(a: u32, b: u32, c: u32, d: i64) -> [u8; 20]
 /// The whole record of a bufferData with a size.
 #[tactic(auto, unfolding(gl_numbers::specs::Bytes::le32, gl_numbers::specs::Bytes::le64))]
 fn buffer_size(target: u32, usage: u32, size: i64) -> [u8; 24]
-    ensures { result ≡ encoding (BufferData target usage (Size size)) }
+    ensures { result ≡ encoding (Buffer (BufferData target usage (Size size))) }
 {
     let [a0, a1, a2, a3] = BUFFER_SIZE.to_le_bytes();
     let [b0, b1, b2, b3] = 16u32.to_le_bytes();
@@ -47,8 +51,8 @@ fn buffer_size(target: u32, usage: u32, size: i64) -> [u8; 24]
 /// The record of a bufferData up to its bytes.
 #[tactic(auto, unfolding(gl_numbers::specs::Bytes::le32))]
 fn buffer_data(target: u32, usage: u32, bytes: &[u8]) -> [u8; 16]
-    requires { Fits (BufferData target usage (Bytes bytes)) }
-    ensures { result ++ bytes.now ≡ encoding (BufferData target usage (Bytes bytes.entry)) }
+    requires { Fits (Buffer (BufferData target usage (Bytes bytes))) }
+    ensures { result ++ bytes.now ≡ encoding (Buffer (BufferData target usage (Bytes bytes.entry))) }
 {
     four_words(BUFFER_DATA, 8 + bytes.len() as u32, target, usage)
 }
@@ -56,8 +60,8 @@ fn buffer_data(target: u32, usage: u32, bytes: &[u8]) -> [u8; 16]
 /// The record of a bufferSubData up to its bytes.
 #[tactic(auto, unfolding(gl_numbers::specs::Bytes::le32, gl_numbers::specs::Bytes::le64))]
 fn buffer_sub_data(target: u32, offset: i64, bytes: &[u8]) -> [u8; 20]
-    requires { Fits (BufferSubData target offset bytes) }
-    ensures { result ++ bytes.now ≡ encoding (BufferSubData target offset bytes.entry) }
+    requires { Fits (Buffer (BufferSubData target offset bytes)) }
+    ensures { result ++ bytes.now ≡ encoding (Buffer (BufferSubData target offset bytes.entry)) }
 {
     three_words_and_long(BUFFER_SUB_DATA, 12 + bytes.len() as u32, target, offset)
 }
@@ -83,24 +87,48 @@ pub fn write_call<O: Sink>(call: &Call<'_>, out: &mut O) -> Result<(), Failed>
     ensures cause { HasCause (O.faults out.old) (O.faults out.new) result }
 {
     match call {
-        Call::Create(New::Buffer) => write_all(&two_words(CREATE_BUFFER, 0), out),
-        Call::Delete(_, handle) => write_all(&three_words(DELETE_BUFFER, 4, *handle), out),
-        Call::IsKind(_, handle) => write_all(&three_words(IS_BUFFER, 4, *handle), out),
-        Call::BindBuffer(target, handle) => {
+        Call::Object(ObjectCall::Create(New::Buffer)) => {
+            write_all(&two_words(CREATE_BUFFER, 0), out)
+        }
+        Call::Object(
+            ObjectCall::Delete {
+                kind: ObjectKind::Buffer,
+                handle,
+            },
+        ) => write_all(&three_words(DELETE_BUFFER, 4, *handle), out),
+        Call::Object(
+            ObjectCall::IsKind {
+                kind: ObjectKind::Buffer,
+                handle,
+            },
+        ) => write_all(&three_words(IS_BUFFER, 4, *handle), out),
+        Call::Buffer(BufferCall::BindBuffer { target, handle }) => {
             write_all(&four_words(BIND_BUFFER, 8, *target, *handle), out)
         }
-        Call::BufferData(target, usage, Fill::Size(size)) => {
-            write_all(&buffer_size(*target, *usage, *size), out)
-        }
-        Call::BufferData(target, usage, Fill::Bytes(tail)) => {
-            write_with_bytes(&buffer_data(*target, *usage, tail), tail, out)
-        }
-        Call::BufferSubData(target, offset, tail) => {
-            write_with_bytes(&buffer_sub_data(*target, *offset, tail), tail, out)
-        }
-        Call::GetBufferParameter(target, name) => {
+        Call::Buffer(
+            BufferCall::BufferData {
+                target,
+                usage,
+                fill: Fill::Size(size),
+            },
+        ) => write_all(&buffer_size(*target, *usage, *size), out),
+        Call::Buffer(
+            BufferCall::BufferData {
+                target,
+                usage,
+                fill: Fill::Bytes(tail),
+            },
+        ) => write_with_bytes(&buffer_data(*target, *usage, tail), tail, out),
+        Call::Buffer(
+            BufferCall::BufferSubData {
+                target,
+                offset,
+                bytes,
+            },
+        ) => write_with_bytes(&buffer_sub_data(*target, *offset, bytes), bytes, out),
+        Call::Buffer(BufferCall::GetBufferParameter { target, name }) => {
             write_all(&four_words(GET_BUFFER_PARAMETER, 8, *target, *name), out)
         }
-        Call::GetError => write_all(&two_words(GET_ERROR, 0), out),
+        Call::Query(QueryCall::GetError) => write_all(&two_words(GET_ERROR, 0), out),
     }
 }

@@ -7,3 +7,4 @@ pub mod BufferRules
 pub mod ByHandle
 pub mod ShortLists
 pub mod Bytes
+pub mod Fields

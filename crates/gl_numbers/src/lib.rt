@@ -7,6 +7,7 @@
 mod buffer_bindings;
 mod buffer_words;
 mod errors;
+mod fields;
 mod kinds;
 mod limits;
 mod short_lists;
@@ -21,6 +22,7 @@ pub use errors::{
     GlError, INVALID_ENUM, INVALID_FRAMEBUFFER_OPERATION, INVALID_OPERATION, INVALID_VALUE, Memory,
     NO_ERROR, OUT_OF_MEMORY,
 };
+pub use fields::{Field, Letter, Row, Tail};
 pub use kinds::{Handle, Kind, Stage};
 pub use limits::{BUFFER_BYTES_MAX, HANDLES_MAX};
 pub use short_lists::{NAME_BYTES, Name, WORDS, Words};
