@@ -7,7 +7,9 @@ use Rattle.std.specs.List.{All, flat_map}
 use Rattle.gl_numbers.specs.Bytes.{le32}
 use Rattle.gl_numbers.proofs.Bytes.{Same, le32-one}
 use Rattle.command_stream.specs.declared.command.Command.{Command}
-use Rattle.command_stream.specs.declared.command.Command.TheVariants.{MakeBuffer, DropBuffer, BindBuffer, BufferSize, BufferBytes}
+use Rattle.command_stream.specs.declared.command.Command.TheVariants.{Object, Buffer}
+use Rattle.command_stream.specs.declared.object_commands.ObjectCommand.TheVariants.{MakeBuffer, DropBuffer}
+use Rattle.command_stream.specs.declared.buffer_commands.BufferCommand.TheVariants.{BindBuffer, BufferSize, BufferBytes}
 use Rattle.command_stream.specs.Commands.{op_of, body_of, command_encoding, stream_start, stream}
 use Rattle.command_stream.specs.Operations.{number_of, operation_numbered, has_shape}
 use Rattle.command_stream.specs.Plain.{Fits, plain}
@@ -117,11 +119,11 @@ part-not-whole bytes rest c (inr p) fits e =
 -- each command's header is one of the table
 shape-of : (c : Command) → Fits c → has_shape (op_of c) (length (body_of c)) ≡ true
 unfolding le32 operation_numbered
-shape-of (MakeBuffer name) fits = refl
-shape-of (DropBuffer name) fits = refl
-shape-of (BindBuffer target name) fits = refl
-shape-of (BufferSize target usage size) fits = refl
-shape-of (BufferBytes target offset tail) fits = grind (arith, fits.body)
+shape-of (Object (MakeBuffer name)) fits = refl
+shape-of (Object (DropBuffer name)) fits = refl
+shape-of (Buffer (BindBuffer target name)) fits = refl
+shape-of (Buffer (BufferSize target usage size)) fits = refl
+shape-of (Buffer (BufferBytes target offset tail)) fits = grind (arith, fits.body)
 
 -- a command's header isn't refused
 pub whole-not-refused : (bytes rest : List ℕ) (c : Command) → IsRefused bytes → Fits c → bytes ≡ command_encoding c ++ rest → ⊥

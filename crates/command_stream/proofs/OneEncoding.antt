@@ -10,7 +10,9 @@ use Rattle.gl_numbers.specs.Bytes.{le32}
 use Rattle.gl_numbers.proofs.Bytes.{Same, le32-one, drop-le32}
 use Rattle.command_stream.specs.declared.operation.TheConstants.{MAKE_BUFFER, DROP_BUFFER, BIND_BUFFER, BUFFER_SIZE}
 use Rattle.command_stream.specs.declared.command.Command.{Command}
-use Rattle.command_stream.specs.declared.command.Command.TheVariants.{MakeBuffer, DropBuffer, BindBuffer, BufferSize, BufferBytes}
+use Rattle.command_stream.specs.declared.command.Command.TheVariants.{Object, Buffer}
+use Rattle.command_stream.specs.declared.object_commands.ObjectCommand.TheVariants.{MakeBuffer, DropBuffer}
+use Rattle.command_stream.specs.declared.buffer_commands.BufferCommand.TheVariants.{BindBuffer, BufferSize, BufferBytes}
 use Rattle.command_stream.specs.Commands.{op_of, body_of, command_encoding, stream_start, stream}
 use Rattle.command_stream.specs.Plain.{HasWords, Fits, plain}
 
@@ -29,30 +31,30 @@ word_at-last n fits = from_le_bytes-to_le_bytes_4 n fits
 -- the command of an operation's number and a body
 command_at : ℕ → List ℕ → Command
 command_at op body =
-    if eqb op MAKE_BUFFER then MakeBuffer (word_at body)
-    else (if eqb op DROP_BUFFER then DropBuffer (word_at body)
-    else (if eqb op BIND_BUFFER then BindBuffer (word_at body) (word_at (drop 4 body))
-    else (if eqb op BUFFER_SIZE then BufferSize (word_at body) (word_at (drop 4 body)) (word_at (drop 4 (drop 4 body)))
-    else BufferBytes (word_at body) (word_at (drop 4 body)) (record { ref_ptr = (0, 0); now = drop 4 (drop 4 body) }))))
+    if eqb op MAKE_BUFFER then Object (MakeBuffer (word_at body))
+    else (if eqb op DROP_BUFFER then Object (DropBuffer (word_at body))
+    else (if eqb op BIND_BUFFER then Buffer (BindBuffer (word_at body) (word_at (drop 4 body)))
+    else (if eqb op BUFFER_SIZE then Buffer (BufferSize (word_at body) (word_at (drop 4 body)) (word_at (drop 4 (drop 4 body))))
+    else Buffer (BufferBytes (word_at body) (word_at (drop 4 body)) (record { ref_ptr = (0, 0); now = drop 4 (drop 4 body) })))))
 
 -- a command is read again from its number and its body
 again : (c : Command) → HasWords c → command_at (op_of c) (body_of c) ≡ plain c
 unfolding command_at
-again (MakeBuffer name) w = rw (word_at-last name w)
-again (DropBuffer name) w = rw (word_at-last name w)
-again (BindBuffer target name) w = rw (word_at-le32 target (le32 name) w.0, drop-le32, word_at-last name w.1)
-again (BufferSize target usage size) w =
+again (Object (MakeBuffer name)) w = rw (word_at-last name w)
+again (Object (DropBuffer name)) w = rw (word_at-last name w)
+again (Buffer (BindBuffer target name)) w = rw (word_at-le32 target (le32 name) w.0, drop-le32, word_at-last name w.1)
+again (Buffer (BufferSize target usage size)) w =
     simp (word_at-le32 target (le32 usage ++ le32 size) w.0, drop-le32, word_at-le32 usage (le32 size) w.1, word_at-last size w.2)
-again (BufferBytes target offset tail) w =
+again (Buffer (BufferBytes target offset tail)) w =
     simp (word_at-le32 target (le32 offset ++ tail.now) w.0, drop-le32, word_at-le32 offset tail.now w.1)
 
 -- a command's number is a word
 pub op-fits : (c : Command) → op_of c < 2 ^ 32
-op-fits (MakeBuffer name) = lit< tt
-op-fits (DropBuffer name) = lit< tt
-op-fits (BindBuffer target name) = lit< tt
-op-fits (BufferSize target usage size) = lit< tt
-op-fits (BufferBytes target offset tail) = lit< tt
+op-fits (Object (MakeBuffer name)) = lit< tt
+op-fits (Object (DropBuffer name)) = lit< tt
+op-fits (Buffer (BindBuffer target name)) = lit< tt
+op-fits (Buffer (BufferSize target usage size)) = lit< tt
+op-fits (Buffer (BufferBytes target offset tail)) = lit< tt
 
 -- one command, and what follows it
 pub record SameCommand (a b : Command) (x y : List ℕ) : Type 0 where

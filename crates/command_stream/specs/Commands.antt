@@ -6,16 +6,18 @@ use Rattle.command_stream.specs.declared.operation.TheConstants.{STREAM_VERSION,
 use Rattle.command_stream.specs.declared.operation.Operation.{Operation}
 use Rattle.command_stream.specs.declared.operation.Operation.TheVariants as op
 use Rattle.command_stream.specs.declared.command.Command.{Command}
-use Rattle.command_stream.specs.declared.command.Command.TheVariants.{MakeBuffer, DropBuffer, BindBuffer, BufferSize, BufferBytes}
+use Rattle.command_stream.specs.declared.command.Command.TheVariants.{Object, Buffer}
+use Rattle.command_stream.specs.declared.object_commands.ObjectCommand.TheVariants.{MakeBuffer, DropBuffer}
+use Rattle.command_stream.specs.declared.buffer_commands.BufferCommand.TheVariants.{BindBuffer, BufferSize, BufferBytes}
 use Rattle.command_stream.specs.Operations.{number_of}
 
 -- what a command asks for
 abbrev pub operation_of : Command → Operation
-operation_of (MakeBuffer name) = op.MakeBuffer
-operation_of (DropBuffer name) = op.DropBuffer
-operation_of (BindBuffer target name) = op.BindBuffer
-operation_of (BufferSize target usage size) = op.BufferSize
-operation_of (BufferBytes target offset tail) = op.BufferBytes
+operation_of (Object (MakeBuffer name)) = op.MakeBuffer
+operation_of (Object (DropBuffer name)) = op.DropBuffer
+operation_of (Buffer (BindBuffer target name)) = op.BindBuffer
+operation_of (Buffer (BufferSize target usage size)) = op.BufferSize
+operation_of (Buffer (BufferBytes target offset tail)) = op.BufferBytes
 
 -- the number of its operation
 abbrev pub op_of : Command → ℕ
@@ -23,11 +25,11 @@ op_of c = number_of (operation_of c)
 
 -- its words in order, and then its bytes
 abbrev pub body_of : Command → List ℕ
-body_of (MakeBuffer name) = le32 name
-body_of (DropBuffer name) = le32 name
-body_of (BindBuffer target name) = le32 target ++ le32 name
-body_of (BufferSize target usage size) = le32 target ++ (le32 usage ++ le32 size)
-body_of (BufferBytes target offset tail) = le32 target ++ (le32 offset ++ tail.now)
+body_of (Object (MakeBuffer name)) = le32 name
+body_of (Object (DropBuffer name)) = le32 name
+body_of (Buffer (BindBuffer target name)) = le32 target ++ le32 name
+body_of (Buffer (BufferSize target usage size)) = le32 target ++ (le32 usage ++ le32 size)
+body_of (Buffer (BufferBytes target offset tail)) = le32 target ++ (le32 offset ++ tail.now)
 
 -- the bytes of a command
 abbrev pub command_encoding : Command → List ℕ

@@ -3,23 +3,18 @@ ghost use Rattle.command_stream.specs.Operations.{allows};
 ghost use Rattle.command_stream.specs.Commands.{operation_of, body_of};
 ghost use Rattle.command_stream.specs.Plain.{HasWords};
 
+use crate::buffer_commands::BufferCommand;
+use crate::object_commands::ObjectCommand;
 use crate::operation::Operation;
 use gl_numbers::u32_at;
 
-/// A command for the driver (OpenGL ES 2.0 section 2.9). Names, sizes and offsets are words; sizes and offsets
-/// are bytes.
+/// A command for the driver (OpenGL ES 2.0), by its subject. Names of objects are the driver's.
 #[derive(Clone, Copy, Debug, PartialEq, Eq)]
 pub enum Command<'a> {
-    /// Makes a buffer of this name.
-    MakeBuffer(u32),
-    /// Gives up the buffer of this name; where it is bound, its targets have none.
-    DropBuffer(u32),
-    /// Binds to the target the buffer of this name, or none where the name is 0.
-    BindBuffer(u32, u32),
-    /// Gives the buffer bound to the target this usage and this size, with zero bytes.
-    BufferSize(u32, u32, u32),
-    /// Writes the bytes into the buffer bound to the target, from the offset on.
-    BufferBytes(u32, u32, &'a [u8]),
+    /// Makes or deletes an object.
+    Object(ObjectCommand),
+    /// Binds a buffer, or gives one its storage or its bytes.
+    Buffer(BufferCommand<'a>),
 }
 
 /// The command of an operation with this body.
@@ -30,18 +25,21 @@ pub fn command_of(operation: Operation, body: &[u8]) -> Command<'_>
     ensures words { HasWords result }
 {
     match operation {
-        Operation::MakeBuffer => Command::MakeBuffer(u32_at(body)),
-        Operation::DropBuffer => Command::DropBuffer(u32_at(body)),
-        Operation::BindBuffer => Command::BindBuffer(u32_at(body), u32_at(&body[4..])),
-        Operation::BufferSize => Command::BufferSize(
-            u32_at(body),
-            u32_at(&body[4..]),
-            u32_at(&body[8..]),
-        ),
-        Operation::BufferBytes => Command::BufferBytes(
-            u32_at(body),
-            u32_at(&body[4..]),
-            &body[8..],
-        ),
+        Operation::MakeBuffer => Command::Object(ObjectCommand::MakeBuffer(u32_at(body))),
+        Operation::DropBuffer => Command::Object(ObjectCommand::DropBuffer(u32_at(body))),
+        Operation::BindBuffer => Command::Buffer(BufferCommand::BindBuffer {
+            target: u32_at(body),
+            name: u32_at(&body[4..]),
+        }),
+        Operation::BufferSize => Command::Buffer(BufferCommand::BufferSize {
+            target: u32_at(body),
+            usage: u32_at(&body[4..]),
+            size: u32_at(&body[8..]),
+        }),
+        Operation::BufferBytes => Command::Buffer(BufferCommand::BufferBytes {
+            target: u32_at(body),
+            offset: u32_at(&body[4..]),
+            bytes: &body[8..],
+        }),
     }
 }

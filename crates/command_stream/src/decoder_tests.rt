@@ -1,16 +1,27 @@
 ghost use Rattle.std.specs.Prelude.{◌+◌, ◌<◌, ◌≤◌, ◌^◌, length};
 
 use crate::tests::STREAM;
-use crate::{Bad, Command, Decoder};
+use crate::{Bad, BufferCommand, Command, Decoder, ObjectCommand};
 use std::test::Fail;
 
 /// The commands of `STREAM`.
 const COMMANDS: [Command<'static>; 5] = [
-    Command::MakeBuffer(3),
-    Command::BindBuffer(0x8892, 3),
-    Command::BufferSize(0x8892, 0x88E4, 2),
-    Command::BufferBytes(0x8892, 0, &[0xAA, 0xBB]),
-    Command::DropBuffer(3),
+    Command::Object(ObjectCommand::MakeBuffer(3)),
+    Command::Buffer(BufferCommand::BindBuffer {
+        target: 0x8892,
+        name: 3,
+    }),
+    Command::Buffer(BufferCommand::BufferSize {
+        target: 0x8892,
+        usage: 0x88E4,
+        size: 2,
+    }),
+    Command::Buffer(BufferCommand::BufferBytes {
+        target: 0x8892,
+        offset: 0,
+        bytes: &[0xAA, 0xBB],
+    }),
+    Command::Object(ObjectCommand::DropBuffer(3)),
 ];
 
 /// Whether the decoder answers so to the piece.
@@ -77,14 +88,20 @@ fn one_piece_is_taken_command_by_command(rt: HostRuntime) -> Result<(), Fail> {
         answers(
             &mut decoder,
             &STREAM,
-            Ok((20, Some(Command::MakeBuffer(3))))
+            Ok((20, Some(Command::Object(ObjectCommand::MakeBuffer(3)))))
         )
     );
     assert!(rt;
         answers(
             &mut decoder,
             &STREAM[20..],
-            Ok((16, Some(Command::BindBuffer(0x8892, 3))))
+            Ok((
+                16,
+                Some(Command::Buffer(BufferCommand::BindBuffer {
+                    target: 0x8892,
+                    name: 3
+                }))
+            ))
         )
     );
     assert!(rt; answers(&mut decoder, &STREAM[36..38], Ok((2, None))));
@@ -93,21 +110,35 @@ fn one_piece_is_taken_command_by_command(rt: HostRuntime) -> Result<(), Fail> {
         answers(
             &mut decoder,
             &STREAM[38..],
-            Ok((18, Some(Command::BufferSize(0x8892, 0x88E4, 2))))
+            Ok((
+                18,
+                Some(Command::Buffer(BufferCommand::BufferSize {
+                    target: 0x8892,
+                    usage: 0x88E4,
+                    size: 2
+                }))
+            ))
         )
     );
     assert!(rt;
         answers(
             &mut decoder,
             &STREAM[56..],
-            Ok((18, Some(Command::BufferBytes(0x8892, 0, &[0xAA, 0xBB]))))
+            Ok((
+                18,
+                Some(Command::Buffer(BufferCommand::BufferBytes {
+                    target: 0x8892,
+                    offset: 0,
+                    bytes: &[0xAA, 0xBB]
+                }))
+            ))
         )
     );
     assert!(rt;
         answers(
             &mut decoder,
             &STREAM[74..],
-            Ok((12, Some(Command::DropBuffer(3))))
+            Ok((12, Some(Command::Object(ObjectCommand::DropBuffer(3)))))
         )
     );
     Ok(())
@@ -193,7 +224,7 @@ fn a_refused_header_changes_nothing(rt: HostRuntime) -> Result<(), Fail> {
         answers(
             &mut decoder,
             &STREAM[18..],
-            Ok((2, Some(Command::MakeBuffer(3))))
+            Ok((2, Some(Command::Object(ObjectCommand::MakeBuffer(3)))))
         )
     );
     assert!(rt; answers(&mut decoder, &STREAM[20..22], Ok((2, None))));
@@ -202,7 +233,13 @@ fn a_refused_header_changes_nothing(rt: HostRuntime) -> Result<(), Fail> {
         answers(
             &mut decoder,
             &STREAM[22..],
-            Ok((14, Some(Command::BindBuffer(0x8892, 3))))
+            Ok((
+                14,
+                Some(Command::Buffer(BufferCommand::BindBuffer {
+                    target: 0x8892,
+                    name: 3
+                }))
+            ))
         )
     );
     Ok(())
@@ -213,7 +250,11 @@ fn the_longest_body_is_taken(rt: HostRuntime) -> Result<(), Fail> {
     let mut decoder = Decoder::new(rt.alloc())?;
     let header = [13, 0, 0, 0, 0x40, 0, 0, 1, 0x92, 0x88, 0, 0, 0, 0, 0, 0];
     let data = vec![in rt.alloc(); 7; 16_777_272]?;
-    let command = Command::BufferBytes(0x8892, 0, data.as_slice());
+    let command = Command::Buffer(BufferCommand::BufferBytes {
+        target: 0x8892,
+        offset: 0,
+        bytes: data.as_slice(),
+    });
     assert!(rt; answers(&mut decoder, &STREAM[..8], Ok((8, None))));
     assert!(rt; answers(&mut decoder, &header, Ok((16, None))));
     assert!(rt;

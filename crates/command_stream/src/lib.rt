@@ -5,16 +5,20 @@
 #![tactic(auto)]
 
 mod bad;
+mod buffer_commands;
 mod command;
 mod decoder;
-mod prefixes;
+mod object_commands;
 mod operation;
+mod prefixes;
 mod taking;
 mod write;
 
 pub use bad::Bad;
+pub use buffer_commands::BufferCommand;
 pub use command::Command;
 pub use decoder::Decoder;
+pub use object_commands::ObjectCommand;
 pub use operation::{
     BIND_BUFFER, BODY_MAX, BUFFER_BYTES, BUFFER_SIZE, DROP_BUFFER, HEADER_BYTES, MAKE_BUFFER,
     Operation, START_BYTES, STREAM_VERSION,

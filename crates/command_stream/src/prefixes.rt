@@ -1,6 +1,8 @@
 ghost use Rattle.std.specs.Prelude.{◌≡◌, ◌++◌};
 ghost use Rattle.gl_numbers.specs.Bytes.{le32};
-ghost use Rattle.command_stream.specs.declared.command.Command.TheVariants.{MakeBuffer, DropBuffer, BindBuffer, BufferSize, BufferBytes};
+ghost use Rattle.command_stream.specs.declared.command.Command.TheVariants.{Object, Buffer};
+ghost use Rattle.command_stream.specs.declared.object_commands.ObjectCommand.TheVariants.{MakeBuffer, DropBuffer};
+ghost use Rattle.command_stream.specs.declared.buffer_commands.BufferCommand.TheVariants.{BindBuffer, BufferSize, BufferBytes};
 ghost use Rattle.command_stream.specs.Commands.{Allowed, command_encoding, stream_start};
 
 use crate::operation::{Operation, STREAM_VERSION};
@@ -33,7 +35,7 @@ fn five_words(a: u32, b: u32, c: u32, d: u32, e: u32) -> [u8; 20]
 /// The whole of a MakeBuffer.
 #[tactic(auto, unfolding(gl_numbers::specs::Bytes::le32))]
 pub fn make_buffer(name: u32) -> [u8; 12]
-    ensures { result ≡ command_encoding (MakeBuffer name) }
+    ensures { result ≡ command_encoding (Object (MakeBuffer name)) }
 {
     let op = Operation::MakeBuffer;
     three_words(op.number(), op.field_bytes(), name)
@@ -42,7 +44,7 @@ pub fn make_buffer(name: u32) -> [u8; 12]
 /// The whole of a DropBuffer.
 #[tactic(auto, unfolding(gl_numbers::specs::Bytes::le32))]
 pub fn drop_buffer(name: u32) -> [u8; 12]
-    ensures { result ≡ command_encoding (DropBuffer name) }
+    ensures { result ≡ command_encoding (Object (DropBuffer name)) }
 {
     let op = Operation::DropBuffer;
     three_words(op.number(), op.field_bytes(), name)
@@ -51,7 +53,7 @@ pub fn drop_buffer(name: u32) -> [u8; 12]
 /// The whole of a BindBuffer.
 #[tactic(auto, unfolding(gl_numbers::specs::Bytes::le32))]
 pub fn bind_buffer(target: u32, name: u32) -> [u8; 16]
-    ensures { result ≡ command_encoding (BindBuffer target name) }
+    ensures { result ≡ command_encoding (Buffer (BindBuffer target name)) }
 {
     let op = Operation::BindBuffer;
     four_words(op.number(), op.field_bytes(), target, name)
@@ -60,7 +62,7 @@ pub fn bind_buffer(target: u32, name: u32) -> [u8; 16]
 /// The whole of a BufferSize.
 #[tactic(auto, unfolding(gl_numbers::specs::Bytes::le32))]
 pub fn buffer_size(target: u32, usage: u32, size: u32) -> [u8; 20]
-    ensures { result ≡ command_encoding (BufferSize target usage size) }
+    ensures { result ≡ command_encoding (Buffer (BufferSize target usage size)) }
 {
     let op = Operation::BufferSize;
     five_words(op.number(), op.field_bytes(), target, usage, size)
@@ -69,8 +71,8 @@ pub fn buffer_size(target: u32, usage: u32, size: u32) -> [u8; 20]
 /// A BufferBytes up to its bytes.
 #[tactic(auto, unfolding(gl_numbers::specs::Bytes::le32))]
 pub fn buffer_bytes(target: u32, offset: u32, bytes: &[u8]) -> [u8; 16]
-    requires { Allowed (BufferBytes target offset bytes) }
-    ensures { result ++ bytes.now ≡ command_encoding (BufferBytes target offset bytes.entry) }
+    requires { Allowed (Buffer (BufferBytes target offset bytes)) }
+    ensures { result ++ bytes.now ≡ command_encoding (Buffer (BufferBytes target offset bytes.entry)) }
 {
     let op = Operation::BufferBytes;
     four_words(

@@ -2,8 +2,8 @@ ghost use Rattle.std.specs.Prelude.{◌≡◌, ◌+◌, ◌<◌, ◌≤◌, ◌+
 ghost use Rattle.command_stream.specs.DecoderState.{IsPart};
 ghost use Rattle.command_stream.specs.Taking.{AreFirst, Judges, StartsIn, TakesIn};
 
-use crate::prefixes::start;
 use crate::operation::{HEADER_BYTES, Operation, START_BYTES};
+use crate::prefixes::start;
 use gl_numbers::u32_at;
 
 /// The bytes of the longest command, header and body.

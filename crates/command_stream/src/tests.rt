@@ -1,6 +1,6 @@
 ghost use Rattle.std.specs.Prelude.{◌≤◌, length};
 
-use crate::{Command, write_command, write_start};
+use crate::{BufferCommand, Command, ObjectCommand, write_command, write_start};
 use std::test::Fail;
 use wire_io::{Failed, MemSink, Sink};
 
@@ -23,11 +23,31 @@ fn write_stream<S: Sink>(bytes: &[u8], stream: &mut S) -> Result<(), Failed>
     requires { length bytes.now ≤ 2 }
 {
     write_start(stream)?;
-    write_command(&Command::MakeBuffer(3), stream)?;
-    write_command(&Command::BindBuffer(0x8892, 3), stream)?;
-    write_command(&Command::BufferSize(0x8892, 0x88E4, 2), stream)?;
-    write_command(&Command::BufferBytes(0x8892, 0, bytes), stream)?;
-    write_command(&Command::DropBuffer(3), stream)
+    write_command(&Command::Object(ObjectCommand::MakeBuffer(3)), stream)?;
+    write_command(
+        &Command::Buffer(BufferCommand::BindBuffer {
+            target: 0x8892,
+            name: 3,
+        }),
+        stream,
+    )?;
+    write_command(
+        &Command::Buffer(BufferCommand::BufferSize {
+            target: 0x8892,
+            usage: 0x88E4,
+            size: 2,
+        }),
+        stream,
+    )?;
+    write_command(
+        &Command::Buffer(BufferCommand::BufferBytes {
+            target: 0x8892,
+            offset: 0,
+            bytes,
+        }),
+        stream,
+    )?;
+    write_command(&Command::Object(ObjectCommand::DropBuffer(3)), stream)
 }
 
 #[test]
