@@ -8,6 +8,8 @@
 #[cfg(test)]
 mod buffer_tests;
 #[cfg(test)]
+mod in_short;
+#[cfg(test)]
 mod over_memory;
 #[cfg(test)]
 mod replay_tests;

@@ -1,0 +1,197 @@
+//! Calls, replies and commands in short, and the bytes of lists of them, for the tests.
+
+ghost use Rattle.std.specs.Prelude.{IsTrue};
+ghost use Rattle.call_records.specs.Records.{Fits};
+ghost use Rattle.command_stream.specs.Commands.{Allowed};
+
+use call_records::{
+    BufferCall, Call, Fill, New, ObjectCall, ObjectKind, QueryCall, Reply, Value, write_call,
+    write_reply,
+};
+use command_stream::{BufferCommand, Command, ObjectCommand, write_command, write_start};
+use std::alloc::Global;
+use std::test::Fail;
+use wire_io::{MemSink, write_all};
+
+pub const ARRAY: u32 = 0x8892;
+
+pub const ELEMENT: u32 = 0x8893;
+
+pub const STATIC: u32 = 0x88E4;
+
+pub const DYNAMIC: u32 = 0x88E8;
+
+pub const SIZE: u32 = 0x8764;
+
+pub const USAGE: u32 = 0x8765;
+
+pub const INVALID_ENUM: u32 = 0x0500;
+
+pub const INVALID_VALUE: u32 = 0x0501;
+
+pub const INVALID_OPERATION: u32 = 0x0502;
+
+pub const CREATE: Call<'static> = Call::Object(ObjectCall::Create(New::Buffer));
+
+pub const GET_ERROR: Call<'static> = Call::Query(QueryCall::GetError);
+
+pub const DONE: Reply = Reply {
+    raised: 0,
+    value: Value::Nothing,
+};
+
+/// The most bytes of a list of calls, replies or commands in the tests.
+const ROOM: usize = 1024;
+
+pub fn delete(handle: u32) -> Call<'static> {
+    Call::Object(ObjectCall::Delete {
+        kind: ObjectKind::Buffer,
+        handle,
+    })
+}
+
+pub fn is_buffer(handle: u32) -> Call<'static> {
+    Call::Object(ObjectCall::IsKind {
+        kind: ObjectKind::Buffer,
+        handle,
+    })
+}
+
+pub fn bind(target: u32, handle: u32) -> Call<'static> {
+    Call::Buffer(BufferCall::BindBuffer { target, handle })
+}
+
+pub fn size(target: u32, usage: u32, size: i64) -> Call<'static> {
+    Call::Buffer(BufferCall::BufferData {
+        target,
+        usage,
+        fill: Fill::Size(size),
+    })
+}
+
+pub fn data(target: u32, usage: u32, bytes: &[u8]) -> Call<'_> {
+    Call::Buffer(BufferCall::BufferData {
+        target,
+        usage,
+        fill: Fill::Bytes(bytes),
+    })
+}
+
+pub fn patch(target: u32, offset: i64, bytes: &[u8]) -> Call<'_> {
+    Call::Buffer(BufferCall::BufferSubData {
+        target,
+        offset,
+        bytes,
+    })
+}
+
+pub fn parameter(target: u32, name: u32) -> Call<'static> {
+    Call::Buffer(BufferCall::GetBufferParameter { target, name })
+}
+
+pub fn number(n: u32) -> Reply {
+    Reply {
+        raised: 0,
+        value: Value::Number(n),
+    }
+}
+
+pub fn refused(raised: u32) -> Reply {
+    Reply {
+        raised,
+        value: Value::Nothing,
+    }
+}
+
+pub fn make_buffer(name: u32) -> Command<'static> {
+    Command::Object(ObjectCommand::MakeBuffer(name))
+}
+
+pub fn drop_buffer(name: u32) -> Command<'static> {
+    Command::Object(ObjectCommand::DropBuffer(name))
+}
+
+pub fn bind_buffer(target: u32, name: u32) -> Command<'static> {
+    Command::Buffer(BufferCommand::BindBuffer { target, name })
+}
+
+pub fn buffer_size(target: u32, usage: u32, size: u32) -> Command<'static> {
+    Command::Buffer(BufferCommand::BufferSize {
+        target,
+        usage,
+        size,
+    })
+}
+
+pub fn buffer_bytes(target: u32, offset: u32, bytes: &[u8]) -> Command<'_> {
+    Command::Buffer(BufferCommand::BufferBytes {
+        target,
+        offset,
+        bytes,
+    })
+}
+
+/// Whether the bytes that the call ends in are short enough for these tests, and so for a record.
+fn is_short(call: &Call<'_>) -> bool
+    ensures { IsTrue result → Fits call.now }
+{
+    let call = *call;
+    match call {
+        Call::Buffer(
+            BufferCall::BufferData {
+                fill: Fill::Bytes(bytes),
+                ..
+            }
+            | BufferCall::BufferSubData { bytes, .. },
+        ) => bytes.len() <= ROOM,
+        _ => true,
+    }
+}
+
+/// Whether the bytes that the command ends in are short enough for these tests, and so for a command.
+fn is_short_command(command: &Command<'_>) -> bool
+    ensures { IsTrue result → Allowed command.now }
+{
+    match command {
+        Command::Buffer(BufferCommand::BufferBytes { bytes, .. }) => bytes.len() <= ROOM,
+        _ => true,
+    }
+}
+
+fn bytes_of(alloc: Global, out: &MemSink) -> Result<Vec<u8>, Fail> {
+    Ok(out.bytes().to_vec(alloc)?)
+}
+
+/// The session of these calls.
+pub fn session(alloc: Global, calls: &[Call<'_>]) -> Result<Vec<u8>, Fail> {
+    let mut out = MemSink::new(vec![in alloc; 0; ROOM]?, Vec::new(alloc));
+    write_all(&[0x57, 0x47, 0x4C, 0x52, 1, 0, 0, 0], &mut out).ok().ok_or("no room")?;
+    for call in calls {
+        if !is_short(call) || write_call(call, &mut out).is_err() {
+            return Err(Fail::from("no room for a record"));
+        }
+    }
+    write_all(&[0; 8], &mut out).ok().ok_or("no room")?;
+    bytes_of(alloc, &out)
+}
+
+/// The replies' bytes.
+pub fn replies(alloc: Global, replies: &[Reply]) -> Result<Vec<u8>, Fail> {
+    let mut out = MemSink::new(vec![in alloc; 0; ROOM]?, Vec::new(alloc));
+    for reply in replies {
+        write_reply(reply, &mut out).ok().ok_or("no room for a reply")?;
+    }
+    bytes_of(alloc, &out)
+}
+
+/// The stream of these commands.
+pub fn stream(alloc: Global, commands: &[Command<'_>]) -> Result<Vec<u8>, Fail> {
+    let mut out = MemSink::new(vec![in alloc; 0; ROOM]?, Vec::new(alloc));
+    write_start(&mut out).ok().ok_or("no room")?;
+    for command in commands {
+        if !is_short_command(command) || write_command(command, &mut out).is_err() {
+            return Err(Fail::from("no room for a command"));
+        }
+    }
+    bytes_of(alloc, &out)
+}
