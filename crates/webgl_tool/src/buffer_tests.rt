@@ -40,12 +40,28 @@ fn is_served_after_bind(
 #[test]
 fn a_deleted_buffer_is_unbound_and_gone(rt: HostRuntime) -> Result<(), Fail> {
     let cases: [Case<'_>; 7] = [
-        ("once", &[delete(1), delete(1)], &[DONE, DONE], &[drop_buffer(3)]),
+        (
+            "once",
+            &[delete(1), delete(1)],
+            &[DONE, DONE],
+            &[drop_buffer(3)],
+        ),
         ("null", &[delete(0)], &[DONE], &[]),
-        ("never given", &[delete(2)], &[refused(INVALID_OPERATION)], &[]),
+        (
+            "never given",
+            &[delete(2)],
+            &[refused(INVALID_OPERATION)],
+            &[],
+        ),
         (
             "isBuffer",
-            &[is_buffer(1), delete(1), is_buffer(1), is_buffer(0), is_buffer(2)],
+            &[
+                is_buffer(1),
+                delete(1),
+                is_buffer(1),
+                is_buffer(0),
+                is_buffer(2),
+            ],
             &[number(1), DONE, number(0), number(0), number(0)],
             &[drop_buffer(3)],
         ),
@@ -63,7 +79,12 @@ fn a_deleted_buffer_is_unbound_and_gone(rt: HostRuntime) -> Result<(), Fail> {
         ),
         (
             "another one stays bound",
-            &[CREATE, bind(ELEMENT, 2), delete(1), size(ELEMENT, STATIC, 4)],
+            &[
+                CREATE,
+                bind(ELEMENT, 2),
+                delete(1),
+                size(ELEMENT, STATIC, 4),
+            ],
             &[number(2), DONE, DONE, DONE],
             &[
                 make_buffer(4),
@@ -85,7 +106,11 @@ fn a_deleted_buffer_is_unbound_and_gone(rt: HostRuntime) -> Result<(), Fail> {
 #[test]
 fn a_buffer_is_bound_to_one_target(rt: HostRuntime) -> Result<(), Fail> {
     // both bindings stay: the buffer that was bound before still takes data, and nothing is bound to the other target
-    let calls = [bind(ELEMENT, 1), size(ARRAY, STATIC, 1), size(ELEMENT, STATIC, 1)];
+    let calls = [
+        bind(ELEMENT, 1),
+        size(ARRAY, STATIC, 1),
+        size(ELEMENT, STATIC, 1),
+    ];
     let replies = [refused(INVALID_OPERATION), DONE, refused(INVALID_OPERATION)];
     let commands = [buffer_size(ARRAY, STATIC, 1)];
     assert!(rt; is_served_after_bind(rt.alloc(), &calls, &replies, &commands)?);
@@ -99,17 +124,37 @@ fn a_call_is_refused_by_its_first_rule(rt: HostRuntime) -> Result<(), Fail> {
         ("usage", size(ELEMENT, 0x88E1, -1), INVALID_ENUM),
         ("negative", size(ELEMENT, STATIC, -1), INVALID_VALUE),
         ("too large", size(ARRAY, STATIC, 67_108_865), INVALID_VALUE),
-        ("larger than a word", size(ARRAY, STATIC, 4_294_967_300), INVALID_VALUE),
+        (
+            "larger than a word",
+            size(ARRAY, STATIC, 4_294_967_300),
+            INVALID_VALUE,
+        ),
         ("none bound", size(ELEMENT, STATIC, 4), INVALID_OPERATION),
         ("bufferSubData, target", patch(1, -1, &[]), INVALID_ENUM),
         ("negative offset", patch(ELEMENT, -1, &[]), INVALID_VALUE),
-        ("none bound for a part", patch(ELEMENT, 0, &[]), INVALID_OPERATION),
-        ("past the end", patch(ARRAY, 5, &[7, 0, 0, 0]), INVALID_VALUE),
+        (
+            "none bound for a part",
+            patch(ELEMENT, 0, &[]),
+            INVALID_OPERATION,
+        ),
+        (
+            "past the end",
+            patch(ARRAY, 5, &[7, 0, 0, 0]),
+            INVALID_VALUE,
+        ),
         ("no bytes past the end", patch(ARRAY, 9, &[]), INVALID_VALUE),
-        ("far past the end", patch(ARRAY, 4_294_967_296, &[7]), INVALID_VALUE),
+        (
+            "far past the end",
+            patch(ARRAY, 4_294_967_296, &[7]),
+            INVALID_VALUE,
+        ),
         ("getBufferParameter, target", parameter(1, 1), INVALID_ENUM),
         ("name", parameter(ELEMENT, 0x8766), INVALID_ENUM),
-        ("none bound for a parameter", parameter(ELEMENT, SIZE), INVALID_OPERATION),
+        (
+            "none bound for a parameter",
+            parameter(ELEMENT, SIZE),
+            INVALID_OPERATION,
+        ),
     ];
     for (name, call, code) in cases {
         let calls = [size(ARRAY, STATIC, 8), call, GET_ERROR, GET_ERROR];
@@ -126,7 +171,12 @@ fn a_call_is_refused_by_its_first_rule(rt: HostRuntime) -> Result<(), Fail> {
 #[test]
 fn sizes_and_bytes_are_taken_within_the_limits(rt: HostRuntime) -> Result<(), Fail> {
     let cases: [Case<'_>; 8] = [
-        ("nothing", &[size(ARRAY, 0x88E0, 0)], &[DONE], &[buffer_size(ARRAY, 0x88E0, 0)]),
+        (
+            "nothing",
+            &[size(ARRAY, 0x88E0, 0)],
+            &[DONE],
+            &[buffer_size(ARRAY, 0x88E0, 0)],
+        ),
         (
             "the most",
             &[size(ARRAY, DYNAMIC, 67_108_864)],
@@ -137,7 +187,10 @@ fn sizes_and_bytes_are_taken_within_the_limits(rt: HostRuntime) -> Result<(), Fa
             "bytes",
             &[data(ARRAY, STATIC, &[7, 8])],
             &[DONE],
-            &[buffer_size(ARRAY, STATIC, 2), buffer_bytes(ARRAY, 0, &[7, 8])],
+            &[
+                buffer_size(ARRAY, STATIC, 2),
+                buffer_bytes(ARRAY, 0, &[7, 8]),
+            ],
         ),
         (
             "no bytes at the end",
@@ -149,13 +202,19 @@ fn sizes_and_bytes_are_taken_within_the_limits(rt: HostRuntime) -> Result<(), Fa
             "up to the end",
             &[size(ARRAY, STATIC, 8), patch(ARRAY, 4, &[7, 0, 0, 9])],
             &[DONE, DONE],
-            &[buffer_size(ARRAY, STATIC, 8), buffer_bytes(ARRAY, 4, &[7, 0, 0, 9])],
+            &[
+                buffer_size(ARRAY, STATIC, 8),
+                buffer_bytes(ARRAY, 4, &[7, 0, 0, 9]),
+            ],
         ),
         (
             "all of it",
             &[size(ARRAY, STATIC, 2), patch(ARRAY, 0, &[7, 8])],
             &[DONE, DONE],
-            &[buffer_size(ARRAY, STATIC, 2), buffer_bytes(ARRAY, 0, &[7, 8])],
+            &[
+                buffer_size(ARRAY, STATIC, 2),
+                buffer_bytes(ARRAY, 0, &[7, 8]),
+            ],
         ),
         (
             "the size and the usage are those of the last bufferData",
@@ -171,7 +230,13 @@ fn sizes_and_bytes_are_taken_within_the_limits(rt: HostRuntime) -> Result<(), Fa
         ),
         (
             "each code has its flag",
-            &[parameter(1, 1), bind(ARRAY, 9), GET_ERROR, GET_ERROR, GET_ERROR],
+            &[
+                parameter(1, 1),
+                bind(ARRAY, 9),
+                GET_ERROR,
+                GET_ERROR,
+                GET_ERROR,
+            ],
             &[
                 refused(INVALID_ENUM),
                 refused(INVALID_OPERATION),

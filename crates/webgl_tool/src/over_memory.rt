@@ -1,6 +1,6 @@
 //! Runs of the tool over memory, for the tests.
 
-use crate::in_short::{replies, session, stream};
+use crate::encoded::{replies, session, stream};
 use crate::tool::run_tool;
 use call_records::{Call, Reply};
 use command_stream::Command;
@@ -81,7 +81,12 @@ pub fn is_served(
     answers: &[Reply],
     commands: &[Command<'_>],
 ) -> Result<bool, Fail> {
-    let ran = run(alloc, session(alloc, calls)?.as_slice(), 1024, [&[], &[], &[]])?;
+    let ran = run(
+        alloc,
+        session(alloc, calls)?.as_slice(),
+        1024,
+        [&[], &[], &[]],
+    )?;
     let out = replies(alloc, answers)?;
     let sent = stream(alloc, commands)?;
     Ok(ran.gave(Status::Ok, out.as_slice(), sent.as_slice()))

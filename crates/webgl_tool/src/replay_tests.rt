@@ -1,8 +1,9 @@
 //! Streams that are replayed over memory.
 
+use crate::encoded::stream;
 use crate::in_short::{
     ARRAY, ELEMENT, INVALID_ENUM, INVALID_OPERATION, INVALID_VALUE, STATIC, bind_buffer,
-    buffer_bytes, buffer_size, drop_buffer, make_buffer, stream,
+    buffer_bytes, buffer_size, drop_buffer, make_buffer,
 };
 use crate::over_memory::{Ran, replay};
 use command_stream::Command;
@@ -60,14 +61,46 @@ fn a_stream_that_is_refused_or_cut_prints_nothing(rt: HostRuntime) -> Result<(),
         (9, &[], Status::Truncated { at: 9 }),
         (35, &[], Status::Truncated { at: 35 }),
         (73, &[], Status::Truncated { at: 73 }),
-        (0, &[0x45, 0x53, 0x43, 0x54, 1, 0, 0, 0], Status::BadInput { at: 0, kind: 2 }),
-        (0, &[0x57, 0x47, 0x4C, 0x52, 2, 0, 0, 0], Status::BadInput { at: 0, kind: 2 }),
-        (0, &[0x45, 0x53, 0x43, 0x53, 2, 0, 0, 0], Status::BadInput { at: 4, kind: 3 }),
-        (0, &[0x45, 0x53, 0x43, 0x53, 1, 0, 0, 1], Status::BadInput { at: 4, kind: 3 }),
-        (8, &[0x02, 0, 0, 0, 0, 0, 0, 0], Status::BadInput { at: 8, kind: 4 }),
-        (20, &[0x00, 0, 0, 0, 0, 0, 0, 0], Status::BadInput { at: 20, kind: 4 }),
-        (36, &[0x0B, 0, 0, 0, 0x09, 0, 0, 0], Status::BadInput { at: 36, kind: 4 }),
-        (74, &[0x0D, 0, 0, 0, 0x41, 0, 0, 0x01], Status::BadInput { at: 74, kind: 4 }),
+        (
+            0,
+            &[0x45, 0x53, 0x43, 0x54, 1, 0, 0, 0],
+            Status::BadInput { at: 0, kind: 2 },
+        ),
+        (
+            0,
+            &[0x57, 0x47, 0x4C, 0x52, 2, 0, 0, 0],
+            Status::BadInput { at: 0, kind: 2 },
+        ),
+        (
+            0,
+            &[0x45, 0x53, 0x43, 0x53, 2, 0, 0, 0],
+            Status::BadInput { at: 4, kind: 3 },
+        ),
+        (
+            0,
+            &[0x45, 0x53, 0x43, 0x53, 1, 0, 0, 1],
+            Status::BadInput { at: 4, kind: 3 },
+        ),
+        (
+            8,
+            &[0x02, 0, 0, 0, 0, 0, 0, 0],
+            Status::BadInput { at: 8, kind: 4 },
+        ),
+        (
+            20,
+            &[0x00, 0, 0, 0, 0, 0, 0, 0],
+            Status::BadInput { at: 20, kind: 4 },
+        ),
+        (
+            36,
+            &[0x0B, 0, 0, 0, 0x09, 0, 0, 0],
+            Status::BadInput { at: 36, kind: 4 },
+        ),
+        (
+            74,
+            &[0x0D, 0, 0, 0, 0x41, 0, 0, 0x01],
+            Status::BadInput { at: 74, kind: 4 },
+        ),
     ];
     for (taken, then, status) in cases {
         let bytes = filling_stream(rt.alloc(), taken, then)?;
@@ -82,17 +115,57 @@ fn each_refusal_of_a_command_has_its_code(rt: HostRuntime) -> Result<(), Fail> {
     let cases: [(&str, Command<'_>, u32); 13] = [
         ("make the name 0", make_buffer(0), INVALID_OPERATION),
         ("make a name in use", make_buffer(3), INVALID_OPERATION),
-        ("drop a name that isn't made", drop_buffer(4), INVALID_OPERATION),
+        (
+            "drop a name that isn't made",
+            drop_buffer(4),
+            INVALID_OPERATION,
+        ),
         ("bind to no target", bind_buffer(0x1234, 3), INVALID_ENUM),
-        ("bind a name that isn't made", bind_buffer(ARRAY, 5), INVALID_OPERATION),
-        ("bind to the other target", bind_buffer(ELEMENT, 3), INVALID_OPERATION),
-        ("size at no target", buffer_size(0x1234, STATIC, 2), INVALID_ENUM),
-        ("size of no usage", buffer_size(ARRAY, 0x1234, 2), INVALID_ENUM),
-        ("too large a size", buffer_size(ARRAY, STATIC, 67_108_865), INVALID_VALUE),
-        ("size of nothing bound", buffer_size(ELEMENT, STATIC, 2), INVALID_OPERATION),
-        ("bytes at no target", buffer_bytes(0x1234, 0, &[]), INVALID_ENUM),
-        ("bytes of nothing bound", buffer_bytes(ELEMENT, 0, &[]), INVALID_OPERATION),
-        ("bytes past the end", buffer_bytes(ARRAY, 1, &[7, 8]), INVALID_VALUE),
+        (
+            "bind a name that isn't made",
+            bind_buffer(ARRAY, 5),
+            INVALID_OPERATION,
+        ),
+        (
+            "bind to the other target",
+            bind_buffer(ELEMENT, 3),
+            INVALID_OPERATION,
+        ),
+        (
+            "size at no target",
+            buffer_size(0x1234, STATIC, 2),
+            INVALID_ENUM,
+        ),
+        (
+            "size of no usage",
+            buffer_size(ARRAY, 0x1234, 2),
+            INVALID_ENUM,
+        ),
+        (
+            "too large a size",
+            buffer_size(ARRAY, STATIC, 67_108_865),
+            INVALID_VALUE,
+        ),
+        (
+            "size of nothing bound",
+            buffer_size(ELEMENT, STATIC, 2),
+            INVALID_OPERATION,
+        ),
+        (
+            "bytes at no target",
+            buffer_bytes(0x1234, 0, &[]),
+            INVALID_ENUM,
+        ),
+        (
+            "bytes of nothing bound",
+            buffer_bytes(ELEMENT, 0, &[]),
+            INVALID_OPERATION,
+        ),
+        (
+            "bytes past the end",
+            buffer_bytes(ARRAY, 1, &[7, 8]),
+            INVALID_VALUE,
+        ),
     ];
     for (name, command, code) in cases {
         let alloc = rt.alloc();

@@ -1,19 +1,16 @@
-ghost use Rattle.std.specs.Prelude.{◌-◌, ◌^◌, None};
+//! Sessions that are run over memory, and the bytes that they are made of.
 
+use crate::encoded::{replies, session, stream};
 use crate::exit_status;
+use crate::filling::{ends, filling_replies, filling_session, filling_stream};
 use crate::in_short::{
-    ARRAY, CREATE, DONE, DYNAMIC, ELEMENT, GET_ERROR, INVALID_ENUM, INVALID_OPERATION, SIZE, STATIC,
-    bind, bind_buffer, buffer_bytes, buffer_size, data, delete, drop_buffer, is_buffer, make_buffer,
-    number, parameter, patch, refused, replies, session, size, stream,
+    ARRAY, CREATE, DONE, DYNAMIC, ELEMENT, GET_ERROR, INVALID_ENUM, INVALID_OPERATION, SIZE,
+    STATIC, bind, bind_buffer, buffer_bytes, buffer_size, data, delete, drop_buffer, is_buffer,
+    make_buffer, number, parameter, patch, refused, size,
 };
-use crate::over_memory::{is_served, run, words_of};
-use crate::tool::run_tool;
-use call_records::{Call, Reply};
-use command_stream::Command;
-use std::alloc::Global;
-use std::cell::Cell;
+use crate::over_memory::{is_served, run};
 use std::test::Fail;
-use wire_io::{Failed, MemSource, Sink, Source, Status};
+use wire_io::Status;
 
 #[test]
 fn each_record_reply_and_command_has_its_bytes(rt: HostRuntime) -> Result<(), Fail> {
@@ -81,60 +78,6 @@ fn each_record_reply_and_command_has_its_bytes(rt: HostRuntime) -> Result<(), Fa
     ];
     assert_eq!(rt; stream(alloc, &commands)?.as_slice(), bytes.as_slice());
     Ok(())
-}
-
-/// Makes a buffer, binds it, gives it two bytes, and asks for the error.
-fn filling() -> [Call<'static>; 4] {
-    [
-        CREATE,
-        bind(ARRAY, 1),
-        data(ARRAY, STATIC, &[0xAA, 0xBB]),
-        GET_ERROR,
-    ]
-}
-
-/// The bytes of its session, 66 of them.
-fn filling_session(alloc: Global) -> Result<Vec<u8>, Fail> {
-    session(alloc, &filling())
-}
-
-/// Its replies, which end at bytes 12, 20, 28 and 40.
-fn filling_replies(alloc: Global) -> Result<Vec<u8>, Fail> {
-    replies(alloc, &[number(1), DONE, DONE, number(0)])
-}
-
-/// Its stream, whose header ends at byte 8, and whose commands end at bytes 20, 36, 56 and 74.
-fn filling_stream(alloc: Global) -> Result<Vec<u8>, Fail> {
-    stream(
-        alloc,
-        &[
-            make_buffer(3),
-            bind_buffer(ARRAY, 3),
-            buffer_size(ARRAY, STATIC, 2),
-            buffer_bytes(ARRAY, 0, &[0xAA, 0xBB]),
-        ],
-    )
-}
-
-/// Whether a run of the first bytes of the session ends so, with this many bytes of its replies and of its stream, where
-/// these calls on the three ends fail.
-fn ends(
-    alloc: Global,
-    taken: usize,
-    failing: [&[u64]; 3],
-    status: Status,
-    left: (usize, usize),
-) -> Result<bool, Fail> {
-    let (replied, sent) = left;
-    let input = filling_session(alloc)?;
-    let ran = run(alloc, input.as_slice().get(..taken).ok_or("cut")?, 256, failing)?;
-    let out = filling_replies(alloc)?;
-    let stream = filling_stream(alloc)?;
-    Ok(ran.gave(
-        status,
-        out.as_slice().get(..replied).ok_or("cut")?,
-        stream.as_slice().get(..sent).ok_or("cut")?,
-    ))
 }
 
 #[test]
@@ -235,184 +178,6 @@ fn bad_input_is_refused_where_it_stands(rt: HostRuntime) -> Result<(), Fail> {
             ),
             "kind {kind} at {at}"
         );
-    }
-    Ok(())
-}
-
-#[test]
-fn a_failing_read_ends_the_run_after_what_was_served(rt: HostRuntime) -> Result<(), Fail> {
-    let mut call = 0u64;
-    for left in [
-        (0usize, 8usize),
-        (0, 8),
-        (12, 20),
-        (12, 20),
-        (20, 36),
-        (20, 36),
-        (28, 74),
-        (40, 74),
-        (40, 74),
-    ] {
-        let failing: [&[u64]; 3] = [&[call], &[], &[]];
-        assert!(rt;
-            ends(rt.alloc(), 66, failing, Status::ReadFault, left)?,
-            "read {call}"
-        );
-        call = call.saturating_add(1);
-    }
-    let failing: [&[u64]; 3] = [&[call], &[], &[]];
-    assert!(rt;
-        ends(rt.alloc(), 66, failing, Status::Ok, (40, 74))?,
-        "there is no read {call}"
-    );
-    Ok(())
-}
-
-#[test]
-fn a_failing_reply_leaves_its_commands_whole(rt: HostRuntime) -> Result<(), Fail> {
-    let mut call = 0u64;
-    for left in [(0usize, 20usize), (12, 36), (20, 74), (28, 74), (40, 74)] {
-        let failing: [&[u64]; 3] = [&[], &[call], &[]];
-        assert!(rt;
-            ends(rt.alloc(), 66, failing, Status::WriteFault, left)?,
-            "call {call} on out"
-        );
-        call = call.saturating_add(1);
-    }
-    Ok(())
-}
-
-#[test]
-fn a_call_whose_command_fails_has_no_reply(rt: HostRuntime) -> Result<(), Fail> {
-    let mut call = 0u64;
-    // a BufferBytes is written in two pieces; the last call is the flush, after which the replies are flushed too
-    for left in [
-        (0usize, 0usize),
-        (0, 8),
-        (12, 20),
-        (20, 36),
-        (20, 56),
-        (20, 72),
-        (40, 74),
-    ] {
-        let failing: [&[u64]; 3] = [&[], &[], &[call]];
-        assert!(rt;
-            ends(rt.alloc(), 66, failing, Status::WriteFault, left)?,
-            "call {call} on stream"
-        );
-        call = call.saturating_add(1);
-    }
-    Ok(())
-}
-
-/// A source without a byte, which remembers how many bytes had gone to the stream when it was first read.
-#[derive(Drop)]
-struct LateSource<'a> {
-    sent: &'a Cell<u64>,
-    first: &'a Cell<Option<u64>>,
-}
-
-impl Source for LateSource<'_> {
-    ghost left = { λ _. None };
-
-    ghost faults = { λ _. 2 ^ 64 - 1 };
-
-    fn read(&mut self, _into: &mut [u8]) -> Result<usize, Failed> {
-        if self.first.get().is_none() {
-            self.first.set(Some(self.sent.get()));
-        }
-        Ok(0)
-    }
-}
-
-/// A sink that takes all, counts its bytes, and whose flushes join a number of which each digit is a sink.
-#[derive(Drop)]
-struct Noted<'a> {
-    digit: u64,
-    taken: &'a Cell<u64>,
-    flushes: &'a Cell<u64>,
-    fails: bool,
-}
-
-impl Sink for Noted<'_> {
-    ghost held = { λ _. None };
-
-    ghost faults = { λ _. 2 ^ 64 - 1 };
-
-    ghost handed_on = { λ _. Unit {0} };
-
-    fn write(&mut self, bytes: &[u8]) -> Result<usize, Failed> {
-        self.taken.set(self.taken.get().wrapping_add(bytes.len() as u64));
-        Ok(bytes.len())
-    }
-
-    fn flush(&mut self) -> Result<(), Failed> {
-        self.flushes.set(self.flushes.get().wrapping_mul(10).wrapping_add(self.digit));
-        if self.fails {
-            return Err(Failed);
-        }
-        Ok(())
-    }
-}
-
-#[test]
-fn the_header_is_written_before_the_first_byte_is_read(rt: HostRuntime) -> Result<(), Fail> {
-    let alloc = rt.alloc();
-    let words = words_of(alloc, &["run", "out.bin"])?;
-    let (sent, replied, flushes, first) = (Cell::new(0), Cell::new(0), Cell::new(0), Cell::new(None));
-    let mut input = LateSource {
-        sent: &sent,
-        first: &first,
-    };
-    let mut stream = Noted {
-        digit: 1,
-        taken: &sent,
-        flushes: &flushes,
-        fails: false,
-    };
-    let mut out = Noted {
-        digit: 2,
-        taken: &replied,
-        flushes: &flushes,
-        fails: false,
-    };
-    let ended = run_tool(alloc, words.as_slice(), &mut input, &mut out, &mut stream);
-    assert_eq!(rt; ended, Status::Truncated { at: 0 });
-    assert_eq!(rt; first.get(), Some(8), "the header has eight bytes");
-    assert_eq!(rt; (sent.get(), replied.get()), (8, 0));
-    Ok(())
-}
-
-#[test]
-fn the_stream_is_flushed_before_the_replies(rt: HostRuntime) -> Result<(), Fail> {
-    let cases: [(usize, u64, bool, Status); 4] = [
-        (66, 99, false, Status::Ok),
-        (66, 99, true, Status::WriteFault),
-        (66, 3, false, Status::ReadFault),
-        (20, 99, false, Status::Truncated { at: 20 }),
-    ];
-    for (taken, failing_read, fails, status) in cases {
-        let alloc = rt.alloc();
-        let words = words_of(alloc, &["run", "out.bin"])?;
-        let (taken_bytes, flushes) = (Cell::new(0), Cell::new(0));
-        let whole = filling_session(alloc)?;
-        let bytes = whole.as_slice().get(..taken).ok_or("cut")?.to_vec(alloc)?;
-        let mut input = MemSource::new(bytes, vec![in alloc; failing_read]?);
-        let mut stream = Noted {
-            digit: 1,
-            taken: &taken_bytes,
-            flushes: &flushes,
-            fails,
-        };
-        let mut out = Noted {
-            digit: 2,
-            taken: &taken_bytes,
-            flushes: &flushes,
-            fails: false,
-        };
-        let ended = run_tool(alloc, words.as_slice(), &mut input, &mut out, &mut stream);
-        assert_eq!(rt; ended, status);
-        assert_eq!(rt; flushes.get(), 12, "{status}");
     }
     Ok(())
 }
