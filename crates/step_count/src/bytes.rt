@@ -3,13 +3,14 @@ ghost use Rattle.step_count.specs.Blocks.{block_at};
 ghost use Rattle.step_count.specs.Ticks.{block_lent};
 
 use crate::Steps;
+use std::fmt::{self, Debug, Formatter, Write};
 use std::sync::ledger::Ledger;
 
 /// The most bytes that one block has.
 pub const BLOCK_BYTES: usize = 64;
 
 /// The bytes of an index buffer, lent a block at a time.
-#[derive(Clone, Copy, Debug)]
+#[derive(Clone, Copy)]
 pub struct Bytes<'a> {
     bytes: &'a [u8],
 }
@@ -31,7 +32,7 @@ impl<'a> Bytes<'a> {
         self.bytes.len()
     }
 
-    /// Whether there is no byte.
+    /// Whether there are no bytes.
     pub fn is_empty(self) -> bool
         ensures { result ≡ (length (content self.entry) == 0) }
     {
@@ -51,5 +52,12 @@ impl<'a> Bytes<'a> {
             return rest;
         }
         rest.split_at(BLOCK_BYTES).0
+    }
+}
+
+/// Shows how many bytes there are, and none of them.
+impl Debug for Bytes<'_> {
+    fn fmt<W: Write>(&self, f: &mut Formatter<W>) -> fmt::Result {
+        write!(f, "Bytes({})", self.bytes.len())
     }
 }

@@ -4,6 +4,7 @@ use crate::{BLOCK_BYTES, Bytes, Steps};
 use std::marker::Brand;
 use std::process::Abort;
 use std::sync::ledger::{Blank, Ledger};
+use std::test::Fail;
 
 /// Reads 130 bytes by the block, with a counter over `L`.
 fn read_blocks<L: Ledger>(rt: &impl Abort, blank: Blank)
@@ -41,4 +42,11 @@ fn no_bytes_are_empty(rt: HostRuntime) {
     let none = Bytes::new(&[]);
     assert_eq!(rt; none.len(), 0);
     assert!(rt; none.is_empty());
+}
+
+#[test]
+fn debug_shows_the_length_alone(rt: HostRuntime) -> Result<(), Fail> {
+    let text = format!(in rt.alloc(); "{:?}", Bytes::new(&[7, 8, 9]))?;
+    assert_eq!(rt; text.as_str(), "Bytes(3)");
+    Ok(())
 }

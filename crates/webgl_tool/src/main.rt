@@ -8,6 +8,14 @@
 #[cfg(test)]
 mod buffer_tests;
 #[cfg(test)]
+mod encoded;
+#[cfg(test)]
+mod fault_tests;
+#[cfg(test)]
+mod filling;
+#[cfg(test)]
+mod in_short;
+#[cfg(test)]
 mod over_memory;
 #[cfg(test)]
 mod replay_tests;

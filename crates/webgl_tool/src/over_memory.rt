@@ -1,31 +1,25 @@
 //! Runs of the tool over memory, for the tests.
 
+use crate::encoded::{replies, session, stream};
 use crate::tool::run_tool;
+use call_records::{Call, Reply};
+use command_stream::Command;
 use std::alloc::{AllocError, Global};
+use std::test::Fail;
 use wire_io::{MemSink, MemSource, Status};
 
-/// What a run over memory answered, and what it left.
+/// How a run over memory ended, and what it left.
 #[derive(Drop)]
 pub struct Ran {
     pub status: Status,
-    pub input: MemSource,
     pub out: MemSink,
     pub stream: MemSink,
 }
 
 impl Ran {
     /// Whether the status is this one, and `out` and the stream hold these bytes.
-    pub fn gave(&self, status: Status, out: Option<&[u8]>, stream: Option<&[u8]>) -> bool {
-        self.status == status
-            && out == Some(self.out.bytes())
-            && stream == Some(self.stream.bytes())
-    }
-
-    /// Whether the status is this one, `out` holds this text, and the stream nothing.
-    pub fn printed(&self, status: Status, text: &str) -> bool {
-        self.status == status
-            && self.out.bytes() == text.as_bytes()
-            && self.stream.bytes().is_empty()
+    pub fn gave(&self, status: Status, out: &[u8], stream: &[u8]) -> bool {
+        self.status == status && self.out.bytes() == out && self.stream.bytes() == stream
     }
 }
 
@@ -40,7 +34,7 @@ pub fn words_of(alloc: Global, texts: &[&str]) -> Result<Vec<String>, AllocError
 
 /// Runs the tool on this input, with room for so many bytes in each sink. Of the calls on the input, on `out` and on
 /// the stream, these fail, counted from 0.
-pub fn run_over(
+fn run_over(
     alloc: Global,
     texts: &[&str],
     bytes: &[u8],
@@ -55,8 +49,45 @@ pub fn run_over(
     let status = run_tool(alloc, words.as_slice(), &mut input, &mut out, &mut stream);
     Ok(Ran {
         status,
-        input,
         out,
         stream,
     })
+}
+
+/// Runs a session, with room for so many bytes in each sink; these calls on the three ends fail.
+pub fn run(
+    alloc: Global,
+    bytes: &[u8],
+    room: usize,
+    failing: [&[u64]; 3],
+) -> Result<Ran, AllocError> {
+    run_over(alloc, &["run", "out.bin"], bytes, room, failing)
+}
+
+/// Replays a stream; these reads of the input and these calls on `out` fail, and every call on the second sink.
+pub fn replay(
+    alloc: Global,
+    bytes: &[u8],
+    reads: &[u64],
+    calls: &[u64],
+) -> Result<Ran, AllocError> {
+    run_over(alloc, &["replay"], bytes, 64, [reads, calls, &[0]])
+}
+
+/// Whether these calls are answered by these replies and send these commands.
+pub fn is_served(
+    alloc: Global,
+    calls: &[Call<'_>],
+    answers: &[Reply],
+    commands: &[Command<'_>],
+) -> Result<bool, Fail> {
+    let ran = run(
+        alloc,
+        session(alloc, calls)?.as_slice(),
+        1024,
+        [&[], &[], &[]],
+    )?;
+    let out = replies(alloc, answers)?;
+    let sent = stream(alloc, commands)?;
+    Ok(ran.gave(Status::Ok, out.as_slice(), sent.as_slice()))
 }

@@ -1,258 +1,206 @@
 //! Streams that are replayed over memory.
 
-use crate::over_memory::{Ran, run_over};
-use std::alloc::{AllocError, Global};
+use crate::encoded::stream;
+use crate::in_short::{
+    ARRAY, ELEMENT, INVALID_ENUM, INVALID_OPERATION, INVALID_VALUE, STATIC, bind_buffer,
+    buffer_bytes, buffer_size, drop_buffer, make_buffer,
+};
+use crate::over_memory::{Ran, replay};
+use command_stream::Command;
+use std::alloc::Global;
 use std::test::Fail;
 use wire_io::Status;
 
-/// Makes a buffer, binds it, and gives it two bytes.
-const STREAM: [u8; 74] = [
-    0x45, 0x53, 0x43, 0x53, 0x01, 0x00, 0x00, 0x00, // ESCS, version 1
-    0x01, 0x00, 0x00, 0x00, 0x04, 0x00, 0x00, 0x00, 0x03, 0x00, 0x00, 0x00, // MakeBuffer 3
-    0x0B, 0x00, 0x00, 0x00, 0x08, 0x00, 0x00, 0x00, // BindBuffer
-    0x92, 0x88, 0x00, 0x00, 0x03, 0x00, 0x00, 0x00, // ARRAY_BUFFER, 3
-    0x0C, 0x00, 0x00, 0x00, 0x0C, 0x00, 0x00, 0x00, // BufferSize
-    0x92, 0x88, 0x00, 0x00, 0xE4, 0x88, 0x00, 0x00, 0x02, 0x00, 0x00, 0x00, // 2 bytes
-    0x0D, 0x00, 0x00, 0x00, 0x0A, 0x00, 0x00, 0x00, // BufferBytes
-    0x92, 0x88, 0x00, 0x00, 0x00, 0x00, 0x00, 0x00, 0xAA, 0xBB, // from 0 on
-];
-
-/// The line of its four commands.
+/// The line of the four commands of `filling`.
 const LINE: &str = "commands 4 draws 0 clears 0 mipmaps 0\n";
 
-/// Replays a stream over memory, where these reads of the input and these calls on `out` fail.
-fn replay(alloc: Global, bytes: &[u8], reads: &[u64], calls: &[u64]) -> Result<Ran, AllocError> {
-    run_over(alloc, &["replay"], bytes, 64, [reads, calls, &[0]])
+/// Makes a buffer, binds it, and gives it two bytes.
+fn filling() -> [Command<'static>; 4] {
+    [
+        make_buffer(3),
+        bind_buffer(ARRAY, 3),
+        buffer_size(ARRAY, STATIC, 2),
+        buffer_bytes(ARRAY, 0, &[0xAA, 0xBB]),
+    ]
 }
 
-/// The first bytes of the stream, and these after them.
-fn after(alloc: Global, taken: usize, bytes: &[u8]) -> Result<Vec<u8>, Fail> {
-    let mut stream = STREAM.get(..taken).ok_or("cut")?.to_vec(alloc)?;
-    stream.extend_from_slice(bytes)?;
-    Ok(stream)
+/// The first bytes of its stream, whose header ends at byte 8, and whose commands end at bytes 20, 36, 56 and 74; and then
+/// these bytes.
+fn filling_stream(alloc: Global, taken: usize, then: &[u8]) -> Result<Vec<u8>, Fail> {
+    let whole = stream(alloc, &filling())?;
+    let mut bytes = whole.as_slice().get(..taken).ok_or("cut")?.to_vec(alloc)?;
+    bytes.extend_from_slice(then)?;
+    Ok(bytes)
 }
 
-#[test]
-fn a_stream_is_told_in_one_line(rt: HostRuntime) -> Result<(), Fail> {
-    let told = replay(rt.alloc(), &STREAM, &[], &[])?;
-    assert!(rt; told.printed(Status::Ok, LINE));
-    Ok(())
+/// Whether the status is this one, `out` holds this text, and the second sink nothing.
+fn printed(ran: &Ran, status: Status, text: &str) -> bool {
+    ran.gave(status, text.as_bytes(), &[])
 }
 
 #[test]
 fn a_stream_may_end_between_two_commands(rt: HostRuntime) -> Result<(), Fail> {
-    for (len, line) in [
-        (8, "commands 0 draws 0 clears 0 mipmaps 0\n"),
+    for (taken, line) in [
+        (8usize, "commands 0 draws 0 clears 0 mipmaps 0\n"),
         (20, "commands 1 draws 0 clears 0 mipmaps 0\n"),
-        (36, "commands 2 draws 0 clears 0 mipmaps 0\n"),
         (56, "commands 3 draws 0 clears 0 mipmaps 0\n"),
         (74, LINE),
     ] {
-        let told = replay(rt.alloc(), STREAM.get(..len).ok_or("cut")?, &[], &[])?;
-        assert!(rt; told.printed(Status::Ok, line), "{len} bytes");
+        let bytes = filling_stream(rt.alloc(), taken, &[])?;
+        let ran = replay(rt.alloc(), bytes.as_slice(), &[], &[])?;
+        assert!(rt; printed(&ran, Status::Ok, line), "{taken} bytes");
     }
     Ok(())
 }
 
 #[test]
-fn a_stream_cut_inside_a_command_is_truncated_at_its_length(rt: HostRuntime) -> Result<(), Fail> {
-    for (from, past) in [(0, 8), (9, 20), (21, 36), (37, 56), (57, 74)] {
-        for len in from..past {
-            let told = replay(rt.alloc(), STREAM.get(..len).ok_or("cut")?, &[], &[])?;
-            let status = Status::Truncated { at: len as u64 };
-            assert!(rt; told.printed(status, ""), "cut at {len}");
-        }
-    }
-    Ok(())
-}
-
-#[test]
-fn a_refused_stream_is_told_where(rt: HostRuntime) -> Result<(), Fail> {
-    let cases: [(usize, &[u8], u64, u32); 8] = [
-        (0, &[0x45, 0x53, 0x43, 0x54, 1, 0, 0, 0], 0, 2),
-        (0, &[0x57, 0x47, 0x4C, 0x52, 2, 0, 0, 0], 0, 2),
-        (0, &[0x45, 0x53, 0x43, 0x53, 2, 0, 0, 0], 4, 3),
-        (0, &[0x45, 0x53, 0x43, 0x53, 1, 0, 0, 1], 4, 3),
-        (8, &[0x02, 0, 0, 0, 0, 0, 0, 0], 8, 4),
-        (20, &[0x00, 0, 0, 0, 0, 0, 0, 0], 20, 4),
-        (36, &[0x0B, 0, 0, 0, 0x09, 0, 0, 0], 36, 4),
-        (74, &[0x0D, 0, 0, 0, 0x41, 0, 0, 0x01], 74, 4),
+fn a_stream_that_is_refused_or_cut_prints_nothing(rt: HostRuntime) -> Result<(), Fail> {
+    let cases: [(usize, &[u8], Status); 13] = [
+        (0, &[], Status::Truncated { at: 0 }),
+        (7, &[], Status::Truncated { at: 7 }),
+        (9, &[], Status::Truncated { at: 9 }),
+        (35, &[], Status::Truncated { at: 35 }),
+        (73, &[], Status::Truncated { at: 73 }),
+        (
+            0,
+            &[0x45, 0x53, 0x43, 0x54, 1, 0, 0, 0],
+            Status::BadInput { at: 0, kind: 2 },
+        ),
+        (
+            0,
+            &[0x57, 0x47, 0x4C, 0x52, 2, 0, 0, 0],
+            Status::BadInput { at: 0, kind: 2 },
+        ),
+        (
+            0,
+            &[0x45, 0x53, 0x43, 0x53, 2, 0, 0, 0],
+            Status::BadInput { at: 4, kind: 3 },
+        ),
+        (
+            0,
+            &[0x45, 0x53, 0x43, 0x53, 1, 0, 0, 1],
+            Status::BadInput { at: 4, kind: 3 },
+        ),
+        (
+            8,
+            &[0x02, 0, 0, 0, 0, 0, 0, 0],
+            Status::BadInput { at: 8, kind: 4 },
+        ),
+        (
+            20,
+            &[0x00, 0, 0, 0, 0, 0, 0, 0],
+            Status::BadInput { at: 20, kind: 4 },
+        ),
+        (
+            36,
+            &[0x0B, 0, 0, 0, 0x09, 0, 0, 0],
+            Status::BadInput { at: 36, kind: 4 },
+        ),
+        (
+            74,
+            &[0x0D, 0, 0, 0, 0x41, 0, 0, 0x01],
+            Status::BadInput { at: 74, kind: 4 },
+        ),
     ];
-    for (taken, bytes, at, kind) in cases {
+    for (taken, then, status) in cases {
+        let bytes = filling_stream(rt.alloc(), taken, then)?;
+        let ran = replay(rt.alloc(), bytes.as_slice(), &[], &[])?;
+        assert!(rt; printed(&ran, status, ""), "{status}");
+    }
+    Ok(())
+}
+
+#[test]
+fn each_refusal_of_a_command_has_its_code(rt: HostRuntime) -> Result<(), Fail> {
+    let cases: [(&str, Command<'_>, u32); 13] = [
+        ("make the name 0", make_buffer(0), INVALID_OPERATION),
+        ("make a name in use", make_buffer(3), INVALID_OPERATION),
+        (
+            "drop a name that isn't made",
+            drop_buffer(4),
+            INVALID_OPERATION,
+        ),
+        ("bind to no target", bind_buffer(0x1234, 3), INVALID_ENUM),
+        (
+            "bind a name that isn't made",
+            bind_buffer(ARRAY, 5),
+            INVALID_OPERATION,
+        ),
+        (
+            "bind to the other target",
+            bind_buffer(ELEMENT, 3),
+            INVALID_OPERATION,
+        ),
+        (
+            "size at no target",
+            buffer_size(0x1234, STATIC, 2),
+            INVALID_ENUM,
+        ),
+        (
+            "size of no usage",
+            buffer_size(ARRAY, 0x1234, 2),
+            INVALID_ENUM,
+        ),
+        (
+            "too large a size",
+            buffer_size(ARRAY, STATIC, 67_108_865),
+            INVALID_VALUE,
+        ),
+        (
+            "size of nothing bound",
+            buffer_size(ELEMENT, STATIC, 2),
+            INVALID_OPERATION,
+        ),
+        (
+            "bytes at no target",
+            buffer_bytes(0x1234, 0, &[]),
+            INVALID_ENUM,
+        ),
+        (
+            "bytes of nothing bound",
+            buffer_bytes(ELEMENT, 0, &[]),
+            INVALID_OPERATION,
+        ),
+        (
+            "bytes past the end",
+            buffer_bytes(ARRAY, 1, &[7, 8]),
+            INVALID_VALUE,
+        ),
+    ];
+    for (name, command, code) in cases {
         let alloc = rt.alloc();
-        let stream = after(alloc, taken, bytes)?;
-        let told = replay(alloc, stream.as_slice(), &[], &[])?;
-        assert!(rt;
-            told.printed(Status::BadInput { at, kind }, ""),
-            "kind {kind} at {at}"
-        );
-    }
-    Ok(())
-}
-
-#[test]
-fn the_first_command_that_has_a_fault_is_named(rt: HostRuntime) -> Result<(), Fail> {
-    let unmade: &[u8] = &[
-        0x0B, 0, 0, 0, 0x08, 0, 0, 0, 0x92, 0x88, 0, 0, 0x05, 0, 0, 0,
-    ];
-    let refused: &[u8] = &[
-        0x01, 0, 0, 0, 0x04, 0, 0, 0, 0x00, 0, 0, 0, 0xFF, 0, 0, 0, 0, 0, 0, 0,
-    ];
-    for (taken, bytes, command) in [(8, unmade, 1), (36, unmade, 3), (74, refused, 5)] {
-        let alloc = rt.alloc();
-        let stream = after(alloc, taken, bytes)?;
-        let told = replay(alloc, stream.as_slice(), &[], &[])?;
-        let status = Status::ReplayFault {
-            command,
-            code: 0x0502,
-        };
-        assert!(rt; told.printed(status, ""), "command {command}");
-    }
-    Ok(())
-}
-
-#[test]
-fn each_refusal_is_told_with_its_code(rt: HostRuntime) -> Result<(), Fail> {
-    let cases: [(&[u8], u32); 13] = [
-        // MakeBuffer 0
-        (
-            &[
-                0x01, 0x00, 0x00, 0x00, 0x04, 0x00, 0x00, 0x00, 0x00, 0x00, 0x00, 0x00,
-            ],
-            0x0502,
-        ),
-        // MakeBuffer of a name in use
-        (
-            &[
-                0x01, 0x00, 0x00, 0x00, 0x04, 0x00, 0x00, 0x00, 0x03, 0x00, 0x00, 0x00,
-            ],
-            0x0502,
-        ),
-        // DropBuffer of a name that isn't made
-        (
-            &[
-                0x06, 0x00, 0x00, 0x00, 0x04, 0x00, 0x00, 0x00, 0x04, 0x00, 0x00, 0x00,
-            ],
-            0x0502,
-        ),
-        // BindBuffer to no target
-        (
-            &[
-                0x0B, 0x00, 0x00, 0x00, 0x08, 0x00, 0x00, 0x00, 0x34, 0x12, 0x00, 0x00, 0x03, 0x00,
-                0x00, 0x00,
-            ],
-            0x0500,
-        ),
-        // BindBuffer of a name that isn't made
-        (
-            &[
-                0x0B, 0x00, 0x00, 0x00, 0x08, 0x00, 0x00, 0x00, 0x92, 0x88, 0x00, 0x00, 0x05, 0x00,
-                0x00, 0x00,
-            ],
-            0x0502,
-        ),
-        // BindBuffer of ARRAY_BUFFER's buffer to ELEMENT_ARRAY_BUFFER
-        (
-            &[
-                0x0B, 0x00, 0x00, 0x00, 0x08, 0x00, 0x00, 0x00, 0x93, 0x88, 0x00, 0x00, 0x03, 0x00,
-                0x00, 0x00,
-            ],
-            0x0502,
-        ),
-        // BufferSize at no target
-        (
-            &[
-                0x0C, 0x00, 0x00, 0x00, 0x0C, 0x00, 0x00, 0x00, 0x34, 0x12, 0x00, 0x00, 0xE4, 0x88,
-                0x00, 0x00, 0x02, 0x00, 0x00, 0x00,
-            ],
-            0x0500,
-        ),
-        // BufferSize of no usage
-        (
-            &[
-                0x0C, 0x00, 0x00, 0x00, 0x0C, 0x00, 0x00, 0x00, 0x92, 0x88, 0x00, 0x00, 0x34, 0x12,
-                0x00, 0x00, 0x02, 0x00, 0x00, 0x00,
-            ],
-            0x0500,
-        ),
-        // BufferSize of 67,108,865 bytes
-        (
-            &[
-                0x0C, 0x00, 0x00, 0x00, 0x0C, 0x00, 0x00, 0x00, 0x92, 0x88, 0x00, 0x00, 0xE4, 0x88,
-                0x00, 0x00, 0x01, 0x00, 0x00, 0x04,
-            ],
-            0x0501,
-        ),
-        // BufferSize of nothing bound
-        (
-            &[
-                0x0C, 0x00, 0x00, 0x00, 0x0C, 0x00, 0x00, 0x00, 0x93, 0x88, 0x00, 0x00, 0xE4, 0x88,
-                0x00, 0x00, 0x02, 0x00, 0x00, 0x00,
-            ],
-            0x0502,
-        ),
-        // BufferBytes at no target
-        (
-            &[
-                0x0D, 0x00, 0x00, 0x00, 0x08, 0x00, 0x00, 0x00, 0x34, 0x12, 0x00, 0x00, 0x00, 0x00,
-                0x00, 0x00,
-            ],
-            0x0500,
-        ),
-        // BufferBytes of nothing bound
-        (
-            &[
-                0x0D, 0x00, 0x00, 0x00, 0x08, 0x00, 0x00, 0x00, 0x93, 0x88, 0x00, 0x00, 0x00, 0x00,
-                0x00, 0x00,
-            ],
-            0x0502,
-        ),
-        // BufferBytes past the end
-        (
-            &[
-                0x0D, 0x00, 0x00, 0x00, 0x0A, 0x00, 0x00, 0x00, 0x92, 0x88, 0x00, 0x00, 0x01, 0x00,
-                0x00, 0x00, 0x07, 0x08,
-            ],
-            0x0501,
-        ),
-    ];
-    for (bytes, code) in cases {
-        let alloc = rt.alloc();
-        let stream = after(alloc, 74, bytes)?;
-        let told = replay(alloc, stream.as_slice(), &[], &[])?;
+        let mut commands = filling().to_vec(alloc)?;
+        commands.push(command)?;
+        let mut bytes = stream(alloc, commands.as_slice())?;
+        // the fault is told before what comes after it is read
+        bytes.extend_from_slice(&[0xFF, 0, 0, 0, 0, 0, 0, 0])?;
+        let ran = replay(alloc, bytes.as_slice(), &[], &[])?;
         let status = Status::ReplayFault { command: 5, code };
-        assert!(rt; told.printed(status, ""), "{bytes:?}");
+        assert!(rt; printed(&ran, status, ""), "{name}");
     }
     Ok(())
 }
 
 #[test]
-fn a_failing_read_leaves_nothing_told(rt: HostRuntime) -> Result<(), Fail> {
-    for call in 0u64..3 {
-        let told = replay(rt.alloc(), &STREAM, &[call], &[])?;
-        assert!(rt; told.printed(Status::ReadFault, ""), "read {call}");
-    }
-    let told = replay(rt.alloc(), &STREAM, &[3], &[])?;
-    assert!(rt; told.printed(Status::Ok, LINE), "there is no read 3");
-    Ok(())
-}
-
-#[test]
-fn a_failing_write_or_flush_is_told_whatever_the_stream(rt: HostRuntime) -> Result<(), Fail> {
-    let cases: [(&[u8], u64, &str); 4] = [
-        (&STREAM, 0, ""),
-        (&STREAM, 1, LINE),
-        (&STREAM[..7], 0, ""),
-        (&[0; 8], 0, ""),
+fn a_replay_ends_at_a_failing_end(rt: HostRuntime) -> Result<(), Fail> {
+    let cases: [(usize, &[u64], &[u64], Status, &str); 9] = [
+        (74, &[0], &[], Status::ReadFault, ""),
+        (74, &[1], &[], Status::ReadFault, ""),
+        (74, &[2], &[], Status::ReadFault, ""),
+        (74, &[3], &[], Status::Ok, LINE),
+        (74, &[], &[0], Status::WriteFault, ""),
+        (74, &[], &[1], Status::WriteFault, LINE),
+        (74, &[], &[2], Status::Ok, LINE),
+        (7, &[], &[0], Status::WriteFault, ""),
+        (7, &[0], &[0], Status::WriteFault, ""),
     ];
-    for (bytes, call, text) in cases {
-        let told = replay(rt.alloc(), bytes, &[], &[call])?;
+    for (taken, reads, calls, status, text) in cases {
+        let bytes = filling_stream(rt.alloc(), taken, &[])?;
+        let ran = replay(rt.alloc(), bytes.as_slice(), reads, calls)?;
         assert!(rt;
-            told.printed(Status::WriteFault, text),
-            "call {call} on out"
+            printed(&ran, status, text),
+            "reads {reads:?}, calls {calls:?}"
         );
     }
-    let told = replay(rt.alloc(), &STREAM, &[], &[2])?;
-    assert!(rt; told.printed(Status::Ok, LINE), "there is no call 2 on out");
     Ok(())
 }

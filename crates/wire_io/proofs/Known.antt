@@ -1,10 +1,9 @@
 -- Known bytes over several reads or writes.
 use Rattle.std.proofs.Common.{◌≡◌, ℕ, ◌+◌, ◌-◌, ◌≤◌, List, ◌++◌, length, take, drop, Option, Some, None, Result, Ok, Err, IsErr, sym, ◌∙◌, ap, arith, append_assoc, length-append}
 use Rattle.std.proofs.Math.Seq.{take-add, take-append-add}
-use Rattle.std.proofs.lemmas.List.{length-take-le, take-append-le}
+use Rattle.std.proofs.lemmas.List.{length-take-le, take-append-le, take_rest}
 use Rattle.std.specs.Io.KnownBytes.{prepend_known, append_known}
 use Rattle.wire_io.specs.Sinks.{Sends}
-use Rattle.wire_io.proofs.Prefixes.{rest_of}
 
 -- bytes taken, and then more
 pub taken_twice : (old mid new : Option (List ℕ)) (a b : List ℕ) → old ≡ prepend_known a mid → mid ≡ prepend_known b new
@@ -33,7 +32,7 @@ pub sent_more : (old mid new : Option (List ℕ)) (sent n : ℕ) (piece : List �
     → mid ≡ append_known old (take sent piece) → new ≡ append_known mid (take n (take (length piece - sent) (drop sent piece)))
     → new ≡ append_known old (take (sent + n) piece)
 sent_more old mid new sent n piece p q =
-    rw take-add (sent_twice old mid new _ _ p (q ∙ ap (λ l. append_known mid (take n l)) (rest_of sent piece)))
+    rw take-add (sent_twice old mid new _ _ p (q ∙ ap (λ l. append_known mid (take n l)) (take_rest piece sent)))
 
 -- a write that ends what was begun sends both parts
 pub sends_then : {T E : Type 0} (old mid new : Option (List ℕ)) (result : Result T E) (a b : List ℕ) → mid ≡ append_known old a

@@ -13,13 +13,13 @@ pub record BufferState : Type 0 where
 abbrev pub empty_buffer : BufferState
 empty_buffer = record { waiting = []; room = CAPACITY; faults = 0 }
 
--- where a reader tells what is left: what waited, and then what was left, is what was given, what waits and what is left
+-- where it is known what a reader has left: what waited, and then what was left, is what was given, what waits and what is left
 abbrev pub Gives : Option (List ℕ) → Option (List ℕ) → List ℕ → List ℕ → List ℕ → Type 0
 Gives None new waited given waits = ⊤
 Gives (Some old) None waited given waits = ⊥
 Gives (Some old) (Some new) waited given waits = waited ++ old ≡ given ++ (waits ++ new)
 
--- where a writer tells what it holds: what it held, what waited and what was taken is what it holds and what waits
+-- where it is known what a writer holds: what it held, what waited and what was taken is what it holds and what waits
 abbrev pub Passes : Option (List ℕ) → Option (List ℕ) → List ℕ → List ℕ → List ℕ → Type 0
 Passes None new waited taken waits = ⊤
 Passes (Some old) None waited taken waits = ⊥
@@ -53,4 +53,4 @@ KeepsShort old new result piece =
 pub record LazyState : Type 0 where
   pub path : List ℕ
   pub is_open : Bool
-  pub after : BufferState
+  pub unsent : BufferState

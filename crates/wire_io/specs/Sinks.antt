@@ -1,4 +1,4 @@
--- What a write adds to a sink's bytes, where the sink tells what it holds.
+-- What a write adds to a sink's bytes, where it is known what the sink holds.
 use Rattle.std.specs.Prelude.{◌≡◌, ℕ, ◌<◌, ◌≤◌, List, length, take, Option, Result, Ok, Err}
 use Rattle.std.specs.Io.KnownBytes.{append_known}
 

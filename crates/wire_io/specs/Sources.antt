@@ -1,4 +1,4 @@
--- What a read takes from a source's bytes, where the source tells what it has left.
+-- What a read takes from a source's bytes, where it is known what the source has left.
 use Rattle.std.specs.Prelude.{◌≡◌, ℕ, ◌<◌, ◌≤◌, List, length, take, Option, Some, None, ⊤, Result, Ok, Err}
 use Rattle.std.specs.Io.KnownBytes.{prepend_known, IsAtEnd}
 
@@ -12,7 +12,7 @@ abbrev pub Fills : {E : Type 0} → Option (List ℕ) → Option (List ℕ) → 
 Fills old new (Ok n) piece = (n ≤ length piece) × (old ≡ prepend_known (take n piece) new) × (n < length piece → IsAtEnd new)
 Fills old new (Err e) piece = (got : List ℕ) × (length got < length piece) × (old ≡ prepend_known got new)
 
--- a fact about what was left and what is left, where both are told
+-- a fact about what was left and what is left, where both are known
 abbrev pub WhereTold : (List ℕ → List ℕ → Type 0) → Option (List ℕ) → Option (List ℕ) → Type 0
 WhereTold P None new = ⊤
 WhereTold P (Some old) None = ⊥

@@ -11,8 +11,8 @@ use std::marker::Model;
 /// How many bytes a buffer holds.
 const CAPACITY: usize = 65_536;
 
-/// Bytes that wait in order, in a fixed array, on their way from a reader or to a writer; and how many faults
-/// there were. Pieces of the array's size or more go past it, once nothing waits.
+/// Bytes that wait in order, in a fixed array, on their way from a reader or to a writer; and the number of
+/// faults so far. Pieces of the array's size or more go past it, once nothing waits.
 #[derive(Drop)]
 pub struct Buffer {
     bytes: [u8; CAPACITY],
@@ -34,8 +34,8 @@ impl Model for Buffer {
     ghost invariant = { λ b. (b.start ≤ b.end) × (b.end ≤ CAPACITY) };
 }
 
-/// Copies as many bytes of the piece as fit after the first `end`, and answers how many.
-fn put_behind(bytes: &mut [u8], end: usize, piece: &[u8]) -> usize
+/// Copies as many bytes of the piece as fit after the first `end`, and returns how many.
+fn append_at(bytes: &mut [u8], end: usize, piece: &[u8]) -> usize
     requires { end ≤ length bytes.old }
     ensures fits { result ≡ min (length piece.now) (length bytes.old - end) }
     ensures content { take (end + result) bytes.new ≡ take end bytes.old ++ take result piece.now }
@@ -43,7 +43,7 @@ fn put_behind(bytes: &mut [u8], end: usize, piece: &[u8]) -> usize
     copy_prefix(piece, &mut bytes[end..])
 }
 
-/// Writes the bytes from `start` on, and moves `start` past those that were taken.
+/// Writes the bytes from `start` on, and moves `start` past those that were written.
 fn write_out<W: Write>(bytes: &[u8], start: &mut usize, out: &mut W) -> Result<(), Failed>
     requires { start.old ≤ length bytes.now }
     ensures within { start.new ≤ length bytes.now }
@@ -63,7 +63,7 @@ fn write_out<W: Write>(bytes: &[u8], start: &mut usize, out: &mut W) -> Result<(
 }
 
 impl Buffer {
-    /// An empty buffer without a fault.
+    /// An empty buffer with no fault.
     pub fn new() -> Self
         ensures { result ≡ empty_buffer }
     {
@@ -92,18 +92,18 @@ impl Buffer {
         &filled[self.start..]
     }
 
-    /// Takes as much of the piece as there is room for, and answers how many bytes.
+    /// Takes as much of the piece as there is room for, and returns how many bytes.
     fn put(&mut self, piece: &[u8]) -> usize
         ensures fits { result ≡ min (length piece.now) self.old.room }
         ensures content { self.new.waiting ≡ self.old.waiting ++ take result piece.now }
         ensures faults { self.new.faults ≡ self.old.faults }
     {
-        let n = put_behind(&mut self.bytes, self.end, piece);
+        let n = append_at(&mut self.bytes, self.end, piece);
         self.end += n;
         n
     }
 
-    /// Gives the next bytes that wait, as many as fit, and answers how many.
+    /// Gives the next bytes that wait, as many as fit, and returns how many.
     fn give(&mut self, into: &mut [u8]) -> usize
         ensures fits { result ≡ min (length self.old.waiting) (length into.old) }
         ensures content { self.old.waiting ≡ take result into.new ++ self.new.waiting }
@@ -164,9 +164,7 @@ impl Buffer {
         if into.len() >= CAPACITY {
             return self.read_past(from, into);
         }
-        let Ok(()) = self.fill(from) else {
-            return Err(Failed);
-        };
+        self.fill(from)?;
         Ok(self.give(into))
     }
 
@@ -194,9 +192,7 @@ impl Buffer {
     {
         let is_long = piece.len() >= CAPACITY;
         if self.end == CAPACITY || is_long {
-            let Ok(()) = self.drain(out) else {
-                return Err(Failed);
-            };
+            self.drain(out)?;
         }
         if is_long {
             return self.write_past(out, piece);
@@ -218,19 +214,17 @@ impl Buffer {
         }
     }
 
-    /// Writes all that waits, and has the writer hand on what it took.
+    /// Writes all that waits, and flushes the writer.
     pub fn flush_to<W: Write>(&mut self, out: &mut W) -> Result<(), Failed>
         ensures whole { OnOk result (self.new.waiting ≡ []) }
         ensures content { Passes (W.contents out.old) (W.contents out.new) self.old.waiting [] self.new.waiting }
         ensures cause { HasCause self.old.faults self.new.faults result }
         ensures counted { CountsErrors self.old.faults self.new.faults result }
     {
-        let Ok(()) = self.drain(out) else {
-            return Err(Failed);
-        };
-        let Ok(()) = out.flush() else {
+        self.drain(out)?;
+        if out.flush().is_err() {
             return Err(self.fault());
-        };
+        }
         Ok(())
     }
 }

@@ -1,6 +1,6 @@
 ghost use Rattle.std.specs.Prelude.{◌≡◌, ◌+◌, ◌-◌, ◌<◌, ◌≤◌, [], ◌++◌, min, length, take, drop};
 
-/// Copies as many bytes as fit from the prefix of `from` to the prefix of `into`, and answers how many.
+/// Copies as many bytes as fit from the start of `from` to the start of `into`, and returns how many.
 pub fn copy_prefix(from: &[u8], into: &mut [u8]) -> usize
     ensures fits { result ≡ min (length from.now) (length into.old) }
     ensures content { into.new ≡ take result from.now ++ drop result into.old }
@@ -12,8 +12,8 @@ pub fn copy_prefix(from: &[u8], into: &mut [u8]) -> usize
     n
 }
 
-/// Copies as many bytes as fit from those past the first `next`, and answers how many.
-#[tactic(auto, using(crate::proofs::Prefixes::took_prefix, crate::proofs::Prefixes::nothing_left))]
+/// Copies as many bytes as fit from those after the first `next`, and returns how many.
+#[tactic(auto, using(crate::proofs::Copying::copied_rest, crate::proofs::Copying::none_left))]
 pub fn copy_rest(bytes: &[u8], next: usize, into: &mut [u8]) -> usize
     requires { next ≤ length bytes.now }
     ensures fits { result ≡ min (length bytes.now - next) (length into.old) }

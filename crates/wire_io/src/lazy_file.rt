@@ -13,14 +13,14 @@ use std::rt::Files;
 /// A file as a sink: made, and emptied where it is there, at the first `write` of a piece that isn't empty or
 /// at the first `flush`, whichever comes first. Up to 65,536 bytes wait for a `write` that needs their room, or
 /// for `flush`; pieces of that length or more are written straight from where they lie. It takes no memory, and
-/// does not tell what it holds. Whatever error the system gives is a fault, and so is a write that takes
-/// nothing. What waits when it is dropped is lost.
+/// contracts know nothing of what it holds. An error of any kind that the system returns is a fault, and so is
+/// a write that takes nothing. What waits when it is dropped is lost.
 #[derive(Drop)]
 pub struct LazyFile<'a, R: Files + Drop> {
     files: R,
     path: &'a str,
     file: Option<R::File>,
-    after: Buffer,
+    unsent: Buffer,
 }
 
 impl<'a, R: Files + Drop> Model for LazyFile<'a, R> {
@@ -29,19 +29,19 @@ impl<'a, R: Files + Drop> Model for LazyFile<'a, R> {
 
     ghost Value = { LazyState };
 
-    ghost view = { λ s. record { path = s.path.now; is_open = is_some s.file; after = s.after } };
+    ghost view = { λ s. record { path = s.path.now; is_open = is_some s.file; unsent = s.unsent } };
 }
 
 impl<'a, R: Files + Drop> LazyFile<'a, R> {
-    /// A sink over the file of this path, which isn't touched yet, without a fault.
+    /// A sink over the file of this path, which isn't touched yet, with no fault.
     pub fn new(files: R, path: &'a str) -> Self
-        ensures { result ≡ record { path = path.now; is_open = false; after = empty_buffer } }
+        ensures { result ≡ record { path = path.now; is_open = false; unsent = empty_buffer } }
     {
         LazyFile {
             files,
             path,
             file: None,
-            after: Buffer::new(),
+            unsent: Buffer::new(),
         }
     }
 }
@@ -49,42 +49,42 @@ impl<'a, R: Files + Drop> LazyFile<'a, R> {
 impl<'a, R: Files + Drop> Sink for LazyFile<'a, R> {
     ghost held = { λ _. None };
 
-    ghost faults = { λ s. s.after.faults };
+    ghost faults = { λ s. s.unsent.faults };
 
-    ghost handed_on = { λ s. s.after.waiting ≡ [] };
+    ghost handed_on = { λ s. s.unsent.waiting ≡ [] };
 
     fn write(&mut self, bytes: &[u8]) -> Result<usize, Failed>
         ensures bytes { Writes None None result bytes.now }
-        ensures cause { HasCause self.old.after.faults self.new.after.faults result }
+        ensures cause { HasCause self.old.unsent.faults self.new.unsent.faults result }
         ensures empty { length bytes.now ≡ 0 → (result ≡ Ok 0) × (self.new ≡ self.old) }
         ensures opens { OnOk result (0 < length bytes.now → self.new.is_open ≡ true) }
         ensures stays { (self.new.path ≡ self.old.path) × (self.old.is_open ≡ true → self.new.is_open ≡ true) }
-        ensures short { self.new.is_open ≡ true → 0 < length bytes.now → KeepsShort self.old.after self.new.after result bytes.now }
-        ensures counted { CountsErrors self.old.after.faults self.new.after.faults result }
+        ensures short { self.new.is_open ≡ true → 0 < length bytes.now → KeepsShort self.old.unsent self.new.unsent result bytes.now }
+        ensures counted { CountsErrors self.old.unsent.faults self.new.unsent.faults result }
     {
         if bytes.is_empty() {
             return Ok(0);
         }
         let Some(mut file) = opened(self.file.take(), &self.files, self.path) else {
-            return Err(self.after.fault());
+            return Err(self.unsent.fault());
         };
-        let result = self.after.write_to(&mut file, bytes);
+        let result = self.unsent.write_to(&mut file, bytes);
         self.file = Some(file);
         result
     }
 
     fn flush(&mut self) -> Result<(), Failed>
         ensures bytes { ◌≡◌ {A = Option (List ℕ)} None None }
-        ensures cause { HasCause self.old.after.faults self.new.after.faults result }
-        ensures handed_on { OnOk result (self.new.after.waiting ≡ []) }
+        ensures cause { HasCause self.old.unsent.faults self.new.unsent.faults result }
+        ensures handed_on { OnOk result (self.new.unsent.waiting ≡ []) }
         ensures opens { OnOk result (self.new.is_open ≡ true) }
         ensures stays { (self.new.path ≡ self.old.path) × (self.old.is_open ≡ true → self.new.is_open ≡ true) }
-        ensures counted { CountsErrors self.old.after.faults self.new.after.faults result }
+        ensures counted { CountsErrors self.old.unsent.faults self.new.unsent.faults result }
     {
         let Some(mut file) = opened(self.file.take(), &self.files, self.path) else {
-            return Err(self.after.fault());
+            return Err(self.unsent.fault());
         };
-        let result = self.after.flush_to(&mut file);
+        let result = self.unsent.flush_to(&mut file);
         self.file = Some(file);
         result
     }
@@ -99,3 +99,6 @@ fn opened<R: Files>(file: Option<R::File>, files: &R, path: &str) -> Option<R::F
         None => fs::create(files, path).ok(),
     }
 }
+
+#[cfg(test)]
+mod tests;

@@ -1,11 +1,13 @@
 //! The outside: where bytes come from and where they go, over memory, standard streams and files, and the
 //! status that a run of the tool ends with. The contract in one sentence: bytes taken are a prefix of what is
-//! left, bytes written are a prefix of the piece, and a failure is answered only where the object's count of
+//! left, bytes written are a prefix of the piece, and an error is returned only where the object's count of
 //! faults rose.
 #![tactic(auto)]
 
 mod buffer;
 mod copies;
+#[cfg(test)]
+mod fakes;
 mod lazy_file;
 mod memory;
 mod sink;

@@ -120,7 +120,7 @@ impl MemSink {
         &self.room.as_slice()[..self.len]
     }
 
-    /// Counts a call, and answers whether it is one that fails.
+    /// Counts a call, and returns whether it is one that fails.
     fn count_call(&mut self) -> bool
         ensures listed { IsTrue result ↔ Contains self.old.fail self.old.calls }
         ensures called { self.new ≡ record self.old { calls = min (self.old.calls + 1) (2 ^ 64 - 1) } }

@@ -6,16 +6,17 @@ use crate::status::Failed;
 
 /// Where replies and commands go.
 pub trait Sink {
-    /// The bytes that it holds, where the sink tells them.
+    /// The bytes that it holds, where they are known.
     ghost held: { Self → Option (List ℕ) };
 
-    /// How many faults there were; it never falls, and stays at 2^64 - 1.
+    /// The number of faults so far; it never falls, and stays at 2^64 - 1.
     ghost faults: { Self → ℕ };
 
-    /// All that it took was handed on: nothing waits in a buffer of its own.
+    /// All the bytes that it took were handed on: written to what lies below it, with nothing left in a buffer of
+    /// its own.
     ghost handed_on: { Self → Type 0 };
 
-    /// Appends a prefix of the piece and answers its length, at least 1 for a piece that isn't empty. Failed
+    /// Appends a prefix of the piece and returns its length, at least 1 for a piece that isn't empty. Failed
     /// comes only where the number of faults rose, and then nothing was appended.
     fn write(&mut self, bytes: &[u8]) -> Result<usize, Failed>
         ensures bytes { Writes (held self.old) (held self.new) result bytes.now }
@@ -36,10 +37,7 @@ pub fn write_all<K: Sink>(bytes: &[u8], out: &mut K) -> Result<(), Failed>
 {
     let mut sent = 0;
     while sent < bytes.len() {
-        let Ok(n) = out.write(&bytes[sent..]) else {
-            return Err(Failed);
-        };
-        sent += n;
+        sent += out.write(&bytes[sent..])?;
     }
     Ok(())
 }

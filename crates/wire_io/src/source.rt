@@ -6,29 +6,27 @@ use crate::status::Failed;
 
 /// Where a session's bytes come from.
 pub trait Source {
-    /// The bytes that are left, where the source tells them.
+    /// The bytes that are left, where they are known.
     ghost left: { Self → Option (List ℕ) };
 
-    /// How many faults there were; it never falls, and stays at 2^64 - 1.
+    /// The number of faults so far; it never falls, and stays at 2^64 - 1.
     ghost faults: { Self → ℕ };
 
-    /// Takes at most as many bytes as `into` has, and answers how many; 0 for a piece that isn't empty is
+    /// Takes at most as many bytes as `into` has, and returns how many; 0 for a piece that isn't empty is
     /// the end. Failed comes only where the number of faults rose, and then nothing was taken.
     fn read(&mut self, into: &mut [u8]) -> Result<usize, Failed>
         ensures bytes { Reads (left self.old) (left self.new) result into.new }
         ensures cause { HasCause (faults self.old) (faults self.new) result };
 }
 
-/// Reads until `into` is full or the end comes, and answers how many bytes were taken.
+/// Reads until `into` is full or the end comes, and returns how many bytes were taken.
 pub fn read_full<S: Source>(input: &mut S, into: &mut [u8]) -> Result<usize, Failed>
     ensures bytes { Fills (S.left input.old) (S.left input.new) result into.new }
     ensures cause { HasCause (S.faults input.old) (S.faults input.new) result }
 {
     let mut filled = 0;
     while filled < into.len() {
-        let Ok(n) = input.read(&mut into[filled..]) else {
-            return Err(Failed);
-        };
+        let n = input.read(&mut into[filled..])?;
         if n == 0 {
             return Ok(filled);
         }

@@ -8,19 +8,19 @@ use crate::buffer::Buffer;
 use crate::sink::Sink;
 use crate::source::Source;
 use crate::status::Failed;
-use std::io::{Stdin, Stdout};
+use std::io::{Read, Write};
 use std::marker::Model;
 
-/// Standard input as a source. It reads ahead by up to 65,536 bytes, and reads straight into pieces of that
-/// length or more; it takes no memory. It does not tell what is left. Whatever error the system gives is a
-/// fault.
+/// A source over one of std's readers, as standard input. It reads ahead by up to 65,536 bytes, and reads
+/// straight into pieces of that length or more. It takes no memory, and contracts know nothing of what is left.
+/// An error of any kind that the reader returns is a fault.
 #[derive(Drop)]
-pub struct StdSource {
-    input: Stdin,
+pub struct StdSource<R: Read + Drop> {
+    input: R,
     ahead: Buffer,
 }
 
-impl Model for StdSource {
+impl<R: Read + Drop> Model for StdSource<R> {
     ghost use Rattle.wire_io.specs.Buffers.{BufferState};
 
     ghost Value = { BufferState };
@@ -28,9 +28,9 @@ impl Model for StdSource {
     ghost view = { λ s. s.ahead };
 }
 
-impl StdSource {
-    /// A source over standard input, without a fault.
-    pub fn new(input: Stdin) -> Self
+impl<R: Read + Drop> StdSource<R> {
+    /// A source over this reader, with nothing read ahead and no fault.
+    pub fn new(input: R) -> Self
         ensures { result ≡ empty_buffer }
     {
         StdSource {
@@ -40,7 +40,7 @@ impl StdSource {
     }
 }
 
-impl Source for StdSource {
+impl<R: Read + Drop> Source for StdSource<R> {
     ghost left = { λ _. None };
 
     ghost faults = { λ s. s.faults };
@@ -55,37 +55,37 @@ impl Source for StdSource {
     }
 }
 
-/// Standard output as a sink. Up to 65,536 bytes wait for a `write` that needs their room, or for `flush`;
-/// pieces of that length or more are written straight from where they lie. It takes no memory, and does not
-/// tell what it holds. Whatever error the system gives is a fault, and so is a write that takes nothing. What
-/// waits when it is dropped is lost.
+/// A sink over one of std's writers, as standard output. Up to 65,536 bytes wait for a `write` that needs their
+/// room, or for `flush`; pieces of that length or more are written straight from where they lie. It takes no
+/// memory, and contracts know nothing of what it holds. An error of any kind that the writer returns is a fault,
+/// and so is a write that takes nothing. What waits when it is dropped is lost.
 #[derive(Drop)]
-pub struct StdSink {
-    output: Stdout,
-    after: Buffer,
+pub struct StdSink<W: Write + Drop> {
+    output: W,
+    unsent: Buffer,
 }
 
-impl Model for StdSink {
+impl<W: Write + Drop> Model for StdSink<W> {
     ghost use Rattle.wire_io.specs.Buffers.{BufferState};
 
     ghost Value = { BufferState };
 
-    ghost view = { λ s. s.after };
+    ghost view = { λ s. s.unsent };
 }
 
-impl StdSink {
-    /// A sink over standard output, without a fault.
-    pub fn new(output: Stdout) -> Self
+impl<W: Write + Drop> StdSink<W> {
+    /// A sink over this writer, with nothing unsent and no fault.
+    pub fn new(output: W) -> Self
         ensures { result ≡ empty_buffer }
     {
         StdSink {
             output,
-            after: Buffer::new(),
+            unsent: Buffer::new(),
         }
     }
 }
 
-impl Sink for StdSink {
+impl<W: Write + Drop> Sink for StdSink<W> {
     ghost held = { λ _. None };
 
     ghost faults = { λ s. s.faults };
@@ -98,7 +98,7 @@ impl Sink for StdSink {
         ensures short { KeepsShort self.old self.new result bytes.now }
         ensures counted { CountsErrors self.old.faults self.new.faults result }
     {
-        self.after.write_to(&mut self.output, bytes)
+        self.unsent.write_to(&mut self.output, bytes)
     }
 
     fn flush(&mut self) -> Result<(), Failed>
@@ -107,6 +107,9 @@ impl Sink for StdSink {
         ensures handed_on { OnOk result (self.new.waiting ≡ []) }
         ensures counted { CountsErrors self.old.faults self.new.faults result }
     {
-        self.after.flush_to(&mut self.output)
+        self.unsent.flush_to(&mut self.output)
     }
 }
+
+#[cfg(test)]
+mod tests;

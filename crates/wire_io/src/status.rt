@@ -8,13 +8,13 @@ pub struct Failed;
 /// there. The exit status of the program is the variant's place, from 0.
 #[derive(Clone, Copy, Debug, PartialEq, Eq, Error)]
 pub enum Status {
-    /// All of the input was taken and answered.
+    /// All of the input was read and served.
     #[error("ok")]
     Ok,
-    /// Memory was wanting.
+    /// There was not enough memory.
     #[error("out of memory")]
     OutOfMemory,
-    /// The words are not those of a command.
+    /// The words of the command line are not those of a command.
     #[error("usage")]
     Usage,
     /// The input is refused at this byte.

@@ -1,8 +1,4 @@
-use crate::{
-    Failed, LazyFile, MemSink, MemSource, Sink, Source, Status, StdSink, StdSource, read_full,
-    write_all,
-};
-use std::fs;
+use crate::{Failed, MemSink, MemSource, Sink, Source, Status, read_full, write_all};
 use std::test::Fail;
 
 #[test]
@@ -73,7 +69,7 @@ fn a_sink_fails_at_the_listed_calls(rt: HostRuntime) -> Result<(), Fail> {
 }
 
 #[test]
-fn a_full_sink_keeps_the_front_of_a_piece(rt: HostRuntime) -> Result<(), Fail> {
+fn a_full_sink_keeps_a_prefix_of_the_piece(rt: HostRuntime) -> Result<(), Fail> {
     let mut out = MemSink::new(vec![in rt.alloc(); 0; 2]?, vec![in rt.alloc()]?);
     assert_eq!(rt; write_all(&[1, 2, 3], &mut out), Err(Failed));
     assert_eq!(rt; out.bytes(), [1u8, 2].as_slice());
@@ -105,61 +101,5 @@ fn a_status_is_printed_as_one_line(rt: HostRuntime) -> Result<(), Fail> {
         let printed = format!(in rt.alloc(); "{status}")?;
         assert_eq!(rt; printed.as_str(), text);
     }
-    Ok(())
-}
-
-#[test]
-fn an_empty_standard_input_is_at_its_end(rt: HostRuntime) -> Result<(), Fail> {
-    let mut input = StdSource::new(rt.stdin());
-    let mut piece = [7u8; 4];
-    assert_eq!(rt; input.read(&mut []), Ok(0));
-    assert_eq!(rt; read_full(&mut input, &mut piece), Ok(0));
-    assert_eq!(rt; piece, [7; 4]);
-    Ok(())
-}
-
-#[test]
-fn standard_output_takes_a_line(rt: HostRuntime) -> Result<(), Fail> {
-    let mut out = StdSink::new(rt.stdout());
-    assert_eq!(rt; out.write(&[]), Ok(0));
-    assert_eq!(rt; write_all(b"a line by way of the sink\n", &mut out), Ok(()));
-    assert_eq!(rt; out.flush(), Ok(()));
-    Ok(())
-}
-
-#[test]
-fn a_file_is_made_late_and_holds_what_was_written(rt: HostRuntime) -> Result<(), Fail> {
-    let path = "wire_io_written_late.bin";
-    let mut out = LazyFile::new(&rt, path);
-    assert_eq!(rt; out.write(&[]), Ok(0));
-    assert!(rt;
-        fs::metadata(&rt, path).is_err(),
-        "an empty piece makes no file"
-    );
-    assert_eq!(rt; write_all(&[1, 2, 3], &mut out), Ok(()));
-    assert_eq!(rt;
-        fs::read(&rt, path)?.as_slice(),
-        [].as_slice(),
-        "short pieces wait"
-    );
-    let long = vec![in rt.alloc(); 4u8; 70_000]?;
-    assert_eq!(rt; write_all(long.as_slice(), &mut out), Ok(()));
-    assert_eq!(rt; write_all(&[5, 6], &mut out), Ok(()));
-    assert_eq!(rt; fs::read(&rt, path)?.len(), 70_003);
-    assert_eq!(rt; out.flush(), Ok(()));
-    let held = fs::read(&rt, path)?;
-    fs::remove_file(&rt, path)?;
-    assert_eq!(rt; held.len(), 70_005);
-    assert!(rt; held.as_slice().starts_with(&[1, 2, 3, 4]));
-    assert!(rt; held.as_slice().ends_with(&[4, 5, 6]));
-    Ok(())
-}
-
-#[test]
-fn a_file_that_cannot_be_made_is_a_fault(rt: HostRuntime) -> Result<(), Fail> {
-    let mut out = LazyFile::new(&rt, "wire_io_no_such_folder/file.bin");
-    assert_eq!(rt; out.write(&[]), Ok(0));
-    assert_eq!(rt; out.write(&[1]), Err(Failed));
-    assert_eq!(rt; out.flush(), Err(Failed));
     Ok(())
 }

@@ -7,6 +7,6 @@ use Rattle.wire_io.proofs.sink.write_all.Goals as goal
 pub loop-sent-preserved : goal.loop-sent-preserved
 loop-sent-preserved g c = record {
   within = grind (arith, common_steps);
-  bytes = sent_more _ _ _ _ _ _ c.loop-sent.invariant.bytes c.in-Ok.ensures.bytes.1;
+  bytes = sent_more _ _ _ _ _ _ c.loop-sent.invariant.bytes c.in_ok-sent.ensures.bytes.1;
   later = grind (arith, common_steps);
 }

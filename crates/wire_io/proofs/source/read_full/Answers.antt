@@ -7,6 +7,6 @@ use Rattle.wire_io.proofs.source.read_full.Goals as goal
 pub loop-filled-preserved : goal.loop-filled-preserved
 loop-filled-preserved g c = record {
   within = grind (arith, common_steps);
-  bytes = filled_more _ _ _ _ _ _ _ _ c.loop-filled.invariant.within c.in-Ok.ensures.bytes.0 c.loop-filled.invariant.bytes c.in-Ok.ensures.bytes.1;
+  bytes = filled_more _ _ _ _ _ _ _ _ c.loop-filled.invariant.within c.in_ok-n.ensures.bytes.0 c.loop-filled.invariant.bytes c.in_ok-n.ensures.bytes.1;
   later = grind (arith, common_steps);
 }
