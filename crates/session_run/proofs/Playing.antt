@@ -13,7 +13,8 @@ use Rattle.command_stream.specs.declared.command.Command.{Command}
 use Rattle.command_stream.specs.Commands.{op_of, body_of, command_encoding, stream_start, stream}
 use Rattle.command_stream.specs.DecoderState.{DecoderState, IsPart, HasBadStart, HasBadCommand, start_taken, command_at}
 use Rattle.command_stream.specs.Decoding.{Takes, Decoded}
-use Rattle.command_stream.proofs.Pieces.{length-start, length-two, allows-within}
+use Rattle.command_stream.proofs.Pieces.{length-start, length-two}
+use Rattle.command_stream.proofs.Table.{allows-within}
 use Rattle.command_stream.proofs.Decoding.{decoded-none, decoded-more, begins-at, bad-place}
 use Rattle.gl_model.specs.DriverState.{first_driver}
 use Rattle.gl_model.specs.DriverStep.{shot}
