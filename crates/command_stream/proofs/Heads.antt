@@ -1,11 +1,11 @@
 -- What is sent of a command whose fields are words: its header, the words, and then its tail.
-use Rattle.std.proofs.Common.{◌≡◌, ℕ, ◌+◌, ◌*◌, List, [], ◌++◌, length, map, Option, Result, refl, sym, ap, subst, ◌∙◌, arith, append_assoc, append-nil}
+use Rattle.std.proofs.Common.{◌≡◌, ℕ, ◌+◌, ◌*◌, ◌≤◌, List, [], ◌++◌, length, map, Option, Result, refl, sym, ap, subst, ◌∙◌, arith, append_assoc, append-nil}
 use Rattle.std.specs.List.{flat_map}
 use Rattle.gl_numbers.specs.Bytes.{le32}
 use Rattle.gl_numbers.specs.Fields.{Word, body_encoding}
 use Rattle.wire_io.specs.Sinks.{Sends}
 use Rattle.command_stream.specs.declared.operation.Operation.{Operation}
-use Rattle.command_stream.specs.Operations.{number_of}
+use Rattle.command_stream.specs.Operations.{number_of, body_max}
 use Rattle.command_stream.specs.Commands.{with_words, encoding_of}
 use Rattle.gl_numbers.proofs.FieldsOfCommands.{body-words, length-body_words}
 
@@ -46,3 +46,7 @@ sends-tail old new result operation number len words tail is size sent =
     head-tail number len words tail size
     ∙ ap (λ n. le32 n ++ (le32 (length (body_encoding (map Word words) tail)) ++ body_encoding (map Word words) tail)) is in
     subst (Sends old new result) same sent
+
+-- few words and a short tail are a short body
+pub short-words : (words tail : List ℕ) → 4 * length words + length tail ≤ body_max → length (body_encoding (map Word words) tail) ≤ body_max
+short-words words tail short = omega (arith, length-body_words words tail, short)

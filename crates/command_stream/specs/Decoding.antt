@@ -30,7 +30,8 @@ pub record Takes (old : DecoderState) (piece : List ℕ) (new : DecoderState) (n
 abbrev pub Feeds : DecoderState → List ℕ → DecoderState → Result (ℕ × Option Command) Bad → Type 0
 Feeds old piece new (Ok (n, found)) = Takes old piece new n found
 Feeds old piece new (Err bad.Version) = (new ≡ old) × HasBadStart old.started old.begun piece
-Feeds old piece new (Err (bad.Command at)) = (new ≡ old) × HasBadCommand old.started old.begun piece × (at ≡ command_at old.started old.begun old.taken)
+Feeds old piece new (Err (bad.Command at)) =
+    (new ≡ old) × HasBadCommand old.started old.begun piece × (at ≡ command_at old.started old.begun old.taken)
 
 -- after these bytes of a stream a decoder has given these commands, and is this one
 pub record Decoded (all : List ℕ) (commands : List Command) (state : DecoderState) : Type 0 where

@@ -1,7 +1,8 @@
-ghost use Rattle.std.specs.Prelude.{◌+◌, ◌<◌, ◌≤◌, ◌^◌, length};
+ghost use Rattle.std.specs.Prelude.{IfOk, ◌+◌, ◌<◌, ◌≤◌, ◌^◌, length};
 
-use crate::tests::stream;
+use crate::tests::{START, stream};
 use crate::{Bad, BufferCommand, Command, Decoder, ObjectCommand};
+use std::alloc::Global;
 use std::test::Fail;
 
 /// The commands of the stream that `stream` gives.
@@ -173,9 +174,19 @@ fn it_is_idle_between_two_commands(rt: HostRuntime) -> Result<(), Fail> {
     Ok(())
 }
 
+/// A decoder that has taken this many bytes of the stream.
+fn decoder_at(alloc: Global, at: usize) -> Result<Decoder, Fail>
+    ensures { IfOk result (λ decoder. decoder.taken ≤ 86) }
+{
+    let stream = stream(alloc)?;
+    let mut decoder = Decoder::new(alloc)?;
+    let prefix = stream.get(..at).ok_or("prefix")?;
+    count_equal(&mut decoder, prefix, 64, &COMMANDS)?;
+    Ok(decoder)
+}
+
 #[test]
 fn each_refused_header_is_told_at_its_offset(rt: HostRuntime) -> Result<(), Fail> {
-    let stream = stream(rt.alloc())?;
     let cases: [([u8; 8], usize, Bad); 14] = [
         ([0x45, 0x53, 0x43, 0x54, 1, 0, 0, 0], 0, Bad::Version),
         ([0x57, 0x47, 0x4C, 0x52, 1, 0, 0, 0], 0, Bad::Version),
@@ -197,12 +208,7 @@ fn each_refused_header_is_told_at_its_offset(rt: HostRuntime) -> Result<(), Fail
         ),
     ];
     for (header, at, bad) in cases {
-        let mut decoder = Decoder::new(rt.alloc())?;
-        let prefix = stream.get(..at).ok_or("prefix")?;
-        assert!(rt;
-            count_equal(&mut decoder, prefix, 64, &COMMANDS).is_ok(),
-            "{bad:?}"
-        );
+        let mut decoder = decoder_at(rt.alloc(), at)?;
         assert!(rt;
             count_equal(&mut decoder, &header, 5, &COMMANDS) == Err(bad),
             "{bad:?}"
@@ -252,7 +258,6 @@ fn a_refused_header_changes_nothing(rt: HostRuntime) -> Result<(), Fail> {
 
 #[test]
 fn the_longest_body_is_taken(rt: HostRuntime) -> Result<(), Fail> {
-    let stream = stream(rt.alloc())?;
     let mut decoder = Decoder::new(rt.alloc())?;
     let header = [13, 0, 0, 0, 0x40, 0, 0, 1, 0x92, 0x88, 0, 0, 0, 0, 0, 0];
     let data = vec![in rt.alloc(); 7; 16_777_272]?;
@@ -261,7 +266,7 @@ fn the_longest_body_is_taken(rt: HostRuntime) -> Result<(), Fail> {
         offset: 0,
         bytes: data.as_slice(),
     });
-    assert!(rt; answers(&mut decoder, &stream[..8], Ok((8, None))));
+    assert!(rt; answers(&mut decoder, &START, Ok((8, None))));
     assert!(rt; answers(&mut decoder, &header, Ok((16, None))));
     assert!(rt;
         answers(

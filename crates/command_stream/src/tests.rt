@@ -12,6 +12,9 @@ pub const STREAM_BYTES: usize = 86;
 /// Where each call on the sink begins.
 const CALLS: [usize; 7] = [0, 8, 20, 36, 56, 72, 74];
 
+/// The header: `ESCS`, and version 1.
+pub const START: [u8; 8] = [0x45, 0x53, 0x43, 0x53, 1, 0, 0, 0];
+
 /// MakeBuffer 3, by hand from the format: words are little-endian.
 const MADE: [u8; 12] = [0x01, 0, 0, 0, 4, 0, 0, 0, 3, 0, 0, 0];
 
@@ -81,10 +84,7 @@ fn is_written(alloc: Global, c: &Command<'_>, bytes: &[u8]) -> Result<bool, Fail
 fn the_header_has_these_bytes(rt: HostRuntime) -> Result<(), Fail> {
     let mut sink = MemSink::new(vec![in rt.alloc(); 0; 8]?, vec![in rt.alloc()]?);
     write_start(&mut sink)?;
-    assert_eq!(rt;
-        sink.bytes(),
-        [0x45, 0x53, 0x43, 0x53, 1, 0, 0, 0].as_slice()
-    );
+    assert_eq!(rt; sink.bytes(), START.as_slice());
     Ok(())
 }
 

@@ -1,13 +1,13 @@
 -- The commands written are short.
-use Rattle.std.proofs.Common.{arith, length-append}
-use Rattle.gl_numbers.proofs.Bytes.{length-le32}
+use Rattle.std.proofs.Common.{[], ◌∷◌, lit≤}
+use Rattle.command_stream.proofs.Heads.{short-words}
 use Rattle.command_stream.proofs.tests.commands_on_buffers_have_these_bytes.Goals as goal
 
 pub is_written-requires : goal.is_written-requires
-is_written-requires c = simp (length-append, length-le32) (omega arith)
+is_written-requires g c = short-words (0x8892 ∷ 3 ∷ []) [] (lit≤ tt)
 
 pub is_written-requires-2 : goal.is_written-requires-2
-is_written-requires-2 c = simp (length-append, length-le32) (omega arith)
+is_written-requires-2 g c = short-words (0x8892 ∷ 0x88E4 ∷ 2 ∷ []) [] (lit≤ tt)
 
 pub is_written-requires-3 : goal.is_written-requires-3
-is_written-requires-3 c = simp (length-append, length-le32) (omega arith)
+is_written-requires-3 g c = short-words (0x8892 ∷ 1 ∷ []) (0xAA ∷ 0xBB ∷ []) (lit≤ tt)
