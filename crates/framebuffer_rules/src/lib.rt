@@ -8,3 +8,6 @@ mod targets;
 
 pub use images::{Image, ImageInfo, status};
 pub use targets::Targets;
+
+#[cfg(test)]
+mod tests;

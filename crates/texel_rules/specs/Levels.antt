@@ -52,7 +52,7 @@ abbrev pub is_reached : LevelInfo → ℕ → Bool
 is_reached base level = nat_le (2 ^ level) (max base.width base.height)
 
 -- whether a test holds at each number below n
-abbrev pub each_below : ℕ → (ℕ → Bool) → Bool
+unfoldable pub each_below : ℕ → (ℕ → Bool) → Bool
 each_below zero test = true
 each_below (suc n) test = each_below n test && test n
 
