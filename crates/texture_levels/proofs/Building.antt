@@ -26,6 +26,7 @@ each-more n test = rw add-one refl
 
 -- what the loops need
 pub ruleset of_building = (built-none, built-more)
+
 pub ruleset of_testing = (each-none, each-more)
 
 and-false : (a b : Bool) → b ≡ false → (a && b) ≡ false
