@@ -9,3 +9,6 @@ mod parameters;
 mod textures;
 
 pub use textures::Textures;
+
+#[cfg(test)]
+mod tests;
