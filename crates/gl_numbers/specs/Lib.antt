@@ -5,6 +5,9 @@ pub mod BufferWords
 pub mod BufferBindings
 pub mod BufferRules
 pub mod ByHandle
+pub mod TextureWords
+pub mod TextureParameters
+pub mod FramebufferWords
 pub mod ShortLists
 pub mod Bytes
 pub mod Fields

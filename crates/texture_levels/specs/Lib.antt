@@ -1,0 +1,4 @@
+pub mod Texture
+pub mod Stored
+pub mod Rules
+pub mod Codes
