@@ -35,10 +35,7 @@ pub const MIRRORED_REPEAT: u32 = 0x8370;
 pub fn is_texture_parameter(n: u32) -> bool
     ensures { result ≡ is_texture_parameter n }
 {
-    n == TEXTURE_MAG_FILTER
-        || n == TEXTURE_MIN_FILTER
-        || n == TEXTURE_WRAP_S
-        || n == TEXTURE_WRAP_T
+    n == TEXTURE_MAG_FILTER || n == TEXTURE_MIN_FILTER || n == TEXTURE_WRAP_S || n == TEXTURE_WRAP_T
 }
 
 /// Whether the word is a magnification filter: NEAREST or LINEAR (OpenGL ES 2.0 section 3.7.4).
