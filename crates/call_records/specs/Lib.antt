@@ -1,3 +1,4 @@
+pub mod Numbers
 pub mod RecordBuf
 pub mod ObjectRecords
 pub mod BufferRecords

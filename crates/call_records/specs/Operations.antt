@@ -1,7 +1,7 @@
 -- The record table over all subjects: the rows of the operations, and the operation of a number (this project's own format).
 use Rattle.std.specs.Prelude.{ℕ, Bool, false, Option, Some, None, ◌==◌, if◌then◌else◌, is_some, ◌||◌}
 use Rattle.gl_numbers.specs.Fields.{TableRow, allows}
-use Rattle.call_records.specs.declared.operations.TheConstants.{CLOSE, BODY_MAX}
+use Rattle.call_records.specs.Numbers.{body_max, closing_number}
 use Rattle.call_records.specs.declared.operations.Operation.{Operation}
 use Rattle.call_records.specs.declared.operations.Operation.TheVariants.{Object, Buffer, Query}
 use Rattle.call_records.specs.ObjectRecords.{object_row, object_numbered}
@@ -27,12 +27,12 @@ operation_numbered n =
 -- whether a body of this length is one of the operation's, if there is one
 abbrev pub allows_body : Option Operation → ℕ → Bool
 allows_body None len = false
-allows_body (Some operation) len = allows BODY_MAX (row_of operation) len
+allows_body (Some operation) len = allows body_max (row_of operation) len
 
 -- whether a record's header may have this number: a call's, or that of the closing record
 abbrev pub is_known : ℕ → Bool
-is_known n = (n == CLOSE) || is_some (operation_numbered n)
+is_known n = (n == closing_number) || is_some (operation_numbered n)
 
 -- whether a record of this number may have a body of this length; the closing record has none
 abbrev pub has_shape : ℕ → ℕ → Bool
-has_shape n len = if n == CLOSE then len == 0 else allows_body (operation_numbered n) len
+has_shape n len = if n == closing_number then len == 0 else allows_body (operation_numbered n) len

@@ -2,13 +2,13 @@
 use Rattle.std.specs.Prelude.{◌≡◌, ℕ, ◌+◌, ◌<◌, ◌≤◌, true, false, List, [], ◌∷◌, ◌++◌, length, Option, Result, Ok, Err}
 use Rattle.std.specs.Io.KnownBytes.{prepend_known, IsAtEnd}
 use Rattle.gl_numbers.specs.Bytes.{le32}
-use Rattle.call_records.specs.declared.operations.TheConstants.{CLOSE, BODY_MAX}
 use Rattle.call_records.specs.declared.operations.Operation.{Operation}
 use Rattle.call_records.specs.declared.reading.Head as Heads
 use Rattle.call_records.specs.declared.reading.Head.TheVariants.{Closing, Record}
 use Rattle.call_records.specs.declared.reading.ReadEnd.{ReadEnd}
 use Rattle.call_records.specs.declared.reading.ReadEnd.TheVariants.{Truncated, UnknownOp, BodyLong, BodyShape, AfterEnd, ReadFault}
 use Rattle.gl_numbers.specs.Fields.{allows}
+use Rattle.call_records.specs.Numbers.{body_max, closing_number}
 use Rattle.call_records.specs.Operations.{row_of, is_known, has_shape}
 use Rattle.call_records.specs.Records.{closing_record}
 
@@ -36,17 +36,17 @@ EndsShort at limit old new _ = ⊥
 pub record IsHeader (number len : ℕ) (operation : Operation) : Type 0 where
   pub numbered : number ≡ (row_of operation).number
   pub known : is_known number ≡ true
-  pub within : len ≤ BODY_MAX
+  pub within : len ≤ body_max
   pub shape : has_shape number len ≡ true
-  pub allowed : allows BODY_MAX (row_of operation) len ≡ true
+  pub allowed : allows body_max (row_of operation) len ≡ true
 
 -- how a header is judged
 abbrev pub Judges : ℕ → ℕ → ℕ → Result Heads.Head ReadEnd → Type 0
-Judges at number len (Ok Closing) = (number ≡ CLOSE) × (len ≡ 0)
+Judges at number len (Ok Closing) = (number ≡ closing_number) × (len ≡ 0)
 Judges at number len (Ok (Record operation size)) = (size ≡ len) × IsHeader number len operation
 Judges at number len (Err (UnknownOp n)) = (n ≡ at) × (is_known number ≡ false)
-Judges at number len (Err (BodyLong n)) = (n ≡ at) × (is_known number ≡ true) × (BODY_MAX < len)
-Judges at number len (Err (BodyShape n)) = (n ≡ at) × (is_known number ≡ true) × (len ≤ BODY_MAX) × (has_shape number len ≡ false)
+Judges at number len (Err (BodyLong n)) = (n ≡ at) × (is_known number ≡ true) × (body_max < len)
+Judges at number len (Err (BodyShape n)) = (n ≡ at) × (is_known number ≡ true) × (len ≤ body_max) × (has_shape number len ≡ false)
 Judges at number len (Err _) = ⊥
 
 -- the header that was taken

@@ -2,8 +2,7 @@
 use Rattle.std.specs.Prelude.{◌≡◌, ℕ, ◌+◌, ◌<◌, ◌≤◌, ◌^◌, ◌⊎◌, true, false, List, [], ◌∷◌, ◌++◌, length, Result, Ok, Err, IfErr}
 use Rattle.gl_numbers.specs.Bytes.{le32}
 use Rattle.wire_io.specs.Faults.{Rose}
-use Rattle.call_records.specs.declared.operations.TheConstants.{HEADER_BYTES, BODY_MAX}
-use Rattle.call_records.specs.declared.reading.TheConstants.{SESSION_MAGIC, SESSION_VERSION, INPUT_MAX}
+use Rattle.call_records.specs.Numbers.{body_max, header_bytes, input_max, session_magic, session_version}
 use Rattle.call_records.specs.declared.reading.Step as Steps
 use Rattle.call_records.specs.declared.reading.Step.TheVariants.{Call, End}
 use Rattle.call_records.specs.declared.reading.ReadEnd.{ReadEnd}
@@ -34,18 +33,18 @@ pub record IsPartOfBody (bytes : List ℕ) : Type 0 where
   pub part : List ℕ
   pub header : TwoWords bytes part
   pub known : is_known header.first ≡ true
-  pub within : header.second ≤ BODY_MAX
+  pub within : header.second ≤ body_max
   pub shape : has_shape header.first header.second ≡ true
   pub short : length part < header.second
 
 -- a proper part of a record: shorter than a header, or a header that nothing refuses without its whole body
 abbrev pub IsCutShort : List ℕ → Type 0
-IsCutShort bytes = (length bytes < HEADER_BYTES) ⊎ IsPartOfBody bytes
+IsCutShort bytes = (length bytes < header_bytes) ⊎ IsPartOfBody bytes
 
 -- what was taken where the source failed in the session's header: less than all of it
 pub record FailsInStart (old new : List ℕ) : Type 0 where
   pub got : List ℕ
-  pub short : length got < HEADER_BYTES
+  pub short : length got < header_bytes
   pub are : old ≡ got ++ new
 
 -- what was taken where the source failed in a record: a proper part of it, or the closing record
@@ -56,9 +55,9 @@ pub record FailsInRecord (old new : List ℕ) : Type 0 where
 
 -- how reading a session's header was refused
 abbrev pub StartRefuses : List ℕ → List ℕ → ReadEnd → Type 0
-StartRefuses old new (Truncated n) = (length old < HEADER_BYTES) × (new ≡ []) × (n ≡ length old)
-StartRefuses old new (Magic n) = (n ≡ 0) × (words : TwoWords old new) × (words.first ≡ SESSION_MAGIC → ⊥)
-StartRefuses old new (Version n) = (n ≡ 4) × (words : TwoWords old new) × (words.first ≡ SESSION_MAGIC) × (words.second ≡ SESSION_VERSION → ⊥)
+StartRefuses old new (Truncated n) = (length old < header_bytes) × (new ≡ []) × (n ≡ length old)
+StartRefuses old new (Magic n) = (n ≡ 0) × (words : TwoWords old new) × (words.first ≡ session_magic → ⊥)
+StartRefuses old new (Version n) = (n ≡ 4) × (words : TwoWords old new) × (words.first ≡ session_magic) × (words.second ≡ session_version → ⊥)
 StartRefuses old new ReadFault = FailsInStart old new
 StartRefuses old new _ = ⊥
 
@@ -71,10 +70,10 @@ StartAnswers old new (Err e) = StartRefuses old new e
 abbrev pub Refuses : ℕ → List ℕ → List ℕ → ReadEnd → Type 0
 Refuses at old new (Truncated n) = IsCutShort old × (new ≡ []) × (n ≡ at + length old)
 Refuses at old new (UnknownOp n) = (n ≡ at) × (header : TwoWords old new) × (is_known header.first ≡ false)
-Refuses at old new (BodyLong n) = (n ≡ at) × (header : TwoWords old new) × (is_known header.first ≡ true) × (BODY_MAX < header.second)
-Refuses at old new (BodyShape n) = (n ≡ at) × (header : TwoWords old new) × (is_known header.first ≡ true) × (header.second ≤ BODY_MAX) × (has_shape header.first header.second ≡ false)
-Refuses at old new (AfterEnd n) = (n ≡ at + HEADER_BYTES) × (byte : ℕ) × (old ≡ closing_record ++ (byte ∷ new))
-Refuses at old new (InputLong n) = (n ≡ at) × (INPUT_MAX < at + HEADER_BYTES) × (new ≡ old)
+Refuses at old new (BodyLong n) = (n ≡ at) × (header : TwoWords old new) × (is_known header.first ≡ true) × (body_max < header.second)
+Refuses at old new (BodyShape n) = (n ≡ at) × (header : TwoWords old new) × (is_known header.first ≡ true) × (header.second ≤ body_max) × (has_shape header.first header.second ≡ false)
+Refuses at old new (AfterEnd n) = (n ≡ at + header_bytes) × (byte : ℕ) × (old ≡ closing_record ++ (byte ∷ new))
+Refuses at old new (InputLong n) = (n ≡ at) × (input_max < at + header_bytes) × (new ≡ old)
 Refuses at old new ReadFault = FailsInRecord old new
 Refuses at old new _ = ⊥
 
@@ -92,7 +91,7 @@ pub record ReadCause {T : Type 0} (before now : ℕ) (result : Result T ReadEnd)
 -- the record's header ends within the most bytes of a session, unless that is what was refused
 abbrev pub HasRoom : {T : Type 0} → ℕ → Result T ReadEnd → Type 0
 HasRoom at (Err (InputLong n)) = Unit {0}
-HasRoom at _ = at + HEADER_BYTES ≤ INPUT_MAX
+HasRoom at _ = at + header_bytes ≤ input_max
 
 -- a refusal of a session's header
 abbrev pub IsStartEnd : ReadEnd → Type 0

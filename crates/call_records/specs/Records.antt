@@ -3,8 +3,7 @@ use Rattle.std.specs.Prelude.{ℕ, List, ◌++◌, codes}
 use Rattle.std.specs.List.{flat_map}
 use Rattle.gl_numbers.specs.Bytes.{le32}
 use Rattle.gl_numbers.specs.Fields.{Parts, among, body, record_encoding, FitsRow}
-use Rattle.call_records.specs.declared.operations.TheConstants.{CLOSE, BODY_MAX}
-use Rattle.call_records.specs.declared.reading.TheConstants.{SESSION_VERSION}
+use Rattle.call_records.specs.Numbers.{body_max, closing_number, session_version}
 use Rattle.call_records.specs.declared.operations.Operation.{Operation}
 use Rattle.call_records.specs.declared.operations.Operation.TheVariants as Op
 use Rattle.call_records.specs.declared.calls.Call.{Call}
@@ -38,15 +37,15 @@ encoding call = record_encoding row_of (parts_of call)
 
 -- the call has a record: its fields fit its row's letters, and its body is no longer than a body may be
 abbrev pub Fits : Call → Type 0
-Fits call = FitsRow row_of BODY_MAX (parts_of call)
+Fits call = FitsRow row_of body_max (parts_of call)
 
 -- the session's header: the text `WGLR`, and the version
 unfoldable pub session_start : List ℕ
-session_start = codes "WGLR" ++ le32 SESSION_VERSION
+session_start = codes "WGLR" ++ le32 session_version
 
 -- the record that closes a session: no operation, and no body
 unfoldable pub closing_record : List ℕ
-closing_record = le32 CLOSE ++ le32 0
+closing_record = le32 closing_number ++ le32 0
 
 -- a session: the header, the calls' records in order, and the closing record
 abbrev pub session : List Call → List ℕ

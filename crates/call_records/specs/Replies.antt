@@ -2,7 +2,6 @@
 use Rattle.std.specs.Prelude.{ℕ, ◌<◌, ◌≤◌, ◌^◌, List, [], ◌++◌, length}
 use Rattle.std.specs.List.{flat_map, All}
 use Rattle.gl_numbers.specs.Bytes.{le32}
-use Rattle.call_records.specs.declared.replies.TheConstants.{TAG_NOTHING, TAG_NUMBER, TAG_LIST, TAG_TEXT, TAG_ACTIVE}
 use Rattle.call_records.specs.declared.replies.Value as Values
 use Rattle.call_records.specs.declared.replies.Value.TheVariants.{Nothing, Number, Text, Active}
 use Rattle.call_records.specs.declared.replies.Value.TheVariants as Value
@@ -10,11 +9,11 @@ use Rattle.call_records.specs.declared.replies.Reply.{Reply}
 
 -- the number of the value's kind
 abbrev pub tag_of : Values.Value → ℕ
-tag_of Nothing = TAG_NOTHING
-tag_of (Number n) = TAG_NUMBER
-tag_of (Value.List words) = TAG_LIST
-tag_of (Text name) = TAG_TEXT
-tag_of (Active size kind name) = TAG_ACTIVE
+tag_of Nothing = 0
+tag_of (Number n) = 1
+tag_of (Value.List words) = 2
+tag_of (Text name) = 3
+tag_of (Active size kind name) = 4
 
 -- the value's content: a list and a name begin with their length
 abbrev pub content_of : Values.Value → List ℕ

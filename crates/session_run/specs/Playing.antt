@@ -4,7 +4,7 @@ use Rattle.std.specs.Io.KnownBytes.{prepend_known, append_known, IsAtEnd}
 use Rattle.wire_io.specs.Faults.{Rose}
 use Rattle.wire_io.specs.declared.status.Status as Statuses
 use Rattle.wire_io.specs.declared.status.Status.TheVariants as Status
-use Rattle.call_records.specs.declared.reading.TheConstants.{INPUT_MAX}
+use Rattle.call_records.specs.Numbers.{input_max}
 use Rattle.command_stream.specs.declared.operation.TheConstants.{START_BYTES, HEADER_BYTES, BODY_MAX}
 use Rattle.command_stream.specs.declared.command.Command.{Command}
 use Rattle.command_stream.specs.Commands.{stream}
@@ -32,8 +32,8 @@ pub record SoFar (all : List ℕ) (decoder : DecoderState) (kept : Kept) (tally 
   pub counted : kept.count ≡ length commands
   pub tallied : tally ≡ tally_of made
   pub within : HeadersWithin commands
-  pub room : 0 < length decoder.begun → decoder.started ≡ true → length (stream commands) + HEADER_BYTES ≤ INPUT_MAX
-  pub ended : length (stream commands) ≤ INPUT_MAX + BODY_MAX
+  pub room : 0 < length decoder.begun → decoder.started ≡ true → length (stream commands) + HEADER_BYTES ≤ input_max
+  pub ended : length (stream commands) ≤ input_max + BODY_MAX
 
 -- some bytes were taken so
 pub record Playing (decoder : DecoderState) (kept : Kept) (tally : Tally) : Type 0 where

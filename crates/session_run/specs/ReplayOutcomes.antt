@@ -5,7 +5,7 @@ use Rattle.gl_numbers.specs.Errors.{code_of}
 use Rattle.wire_io.specs.Faults.{Rose}
 use Rattle.wire_io.specs.declared.status.Status as Statuses
 use Rattle.wire_io.specs.declared.status.Status.TheVariants as Status
-use Rattle.call_records.specs.declared.reading.TheConstants.{INPUT_MAX}
+use Rattle.call_records.specs.Numbers.{input_max}
 use Rattle.command_stream.specs.declared.operation.TheConstants.{START_BYTES, HEADER_BYTES}
 use Rattle.command_stream.specs.declared.command.Command.{Command}
 use Rattle.command_stream.specs.Commands.{command_encoding, stream_start, stream}
@@ -23,7 +23,7 @@ use Rattle.session_run.specs.declared.replay_end.ReplayEnd.TheVariants.{Truncate
 
 -- the header of each of these commands ends by byte 2^62 of their stream
 abbrev pub HeadersWithin : List Command → Type 0
-HeadersWithin commands = (k : ℕ) → k < length commands → length (stream (take k commands)) + HEADER_BYTES ≤ INPUT_MAX
+HeadersWithin commands = (k : ℕ) → k < length commands → length (stream (take k commands)) + HEADER_BYTES ≤ input_max
 
 -- the bytes begin with the stream of commands that replay without a fault, each with its header within the bound
 pub record Begins (bytes : List ℕ) : Type 0 where
@@ -56,20 +56,20 @@ pub record HasOtherVersion (bytes : List ℕ) : Type 0 where
 pub record HasBadHeader (bytes : List ℕ) (at : ℕ) : Type 0 where
   pub begins : Begins bytes
   pub place : at ≡ length (stream begins.commands)
-  pub room : at + HEADER_BYTES ≤ INPUT_MAX
+  pub room : at + HEADER_BYTES ≤ input_max
   pub refused : IsRefused begins.rest
 
 -- after such commands a header begins at this byte that would end past byte 2^62
 pub record HasLateHeader (bytes : List ℕ) (at : ℕ) : Type 0 where
   pub begins : Begins bytes
   pub place : at ≡ length (stream begins.commands)
-  pub late : INPUT_MAX < at + HEADER_BYTES
+  pub late : input_max < at + HEADER_BYTES
   pub begun : 0 < length begins.rest
 
 -- after such commands the bytes end inside a command
 pub record EndsInCommand (bytes : List ℕ) : Type 0 where
   pub begins : Begins bytes
-  pub room : length (stream begins.commands) + HEADER_BYTES ≤ INPUT_MAX
+  pub room : length (stream begins.commands) + HEADER_BYTES ≤ input_max
   pub begun : 0 < length begins.rest
   pub part : IsPartOfCommand begins.rest
 
@@ -88,7 +88,7 @@ pub record FaultsAt (replayed : Replayed) (number code : ℕ) : Type 0 where
 -- after such commands the next one has a fault, whatever follows it
 pub record HasFault (bytes : List ℕ) (number code : ℕ) : Type 0 where
   pub begins : Begins bytes
-  pub room : length (stream begins.commands) + HEADER_BYTES ≤ INPUT_MAX
+  pub room : length (stream begins.commands) + HEADER_BYTES ≤ input_max
   pub command : Command
   pub fits : Fits command
   pub more : List ℕ

@@ -3,8 +3,7 @@ use Rattle.std.specs.Prelude.{◌≡◌, ℕ, ◌+◌, ◌<◌, ◌≤◌, Bool,
 use Rattle.std.specs.List.{flat_map}
 use Rattle.std.specs.Option.{option_to_list}
 use Rattle.std.specs.Io.KnownBytes.{append_known}
-use Rattle.call_records.specs.declared.operations.TheConstants.{HEADER_BYTES}
-use Rattle.call_records.specs.declared.reading.TheConstants.{INPUT_MAX}
+use Rattle.call_records.specs.Numbers.{header_bytes, input_max}
 use Rattle.call_records.specs.declared.calls.Call.{Call}
 use Rattle.call_records.specs.declared.replies.Reply.{Reply}
 use Rattle.call_records.specs.Records.{encoding, Fits}
@@ -42,7 +41,7 @@ place_after calls = 8 + length (records_of calls)
 
 -- the header of the record after these calls' ends by byte 2^62
 abbrev pub HasRoomAfter : List Call → Type 0
-HasRoomAfter calls = place_after calls + HEADER_BYTES ≤ INPUT_MAX
+HasRoomAfter calls = place_after calls + header_bytes ≤ input_max
 
 -- so does the header of each of these calls' records
 abbrev pub HeadersWithin : List Call → Type 0
