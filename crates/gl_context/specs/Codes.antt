@@ -9,6 +9,7 @@ use Rattle.buffer_store.specs.Codes.{stored_code}
 use Rattle.gl_model.specs.Errors.{ErrorSet}
 use Rattle.gl_context.specs.Stands.{Kept}
 
+-- a number for each kind of object
 abbrev number_of_kind : Kinds.Kind → ℕ
 number_of_kind Buffer = 0
 number_of_kind Texture = 1
@@ -17,6 +18,7 @@ number_of_kind Framebuffer = 3
 number_of_kind Shader = 4
 number_of_kind Program = 5
 
+-- the kind of object of a number
 abbrev kind_of_number : ℕ → Kinds.Kind
 kind_of_number n =
     if n == 0 then Buffer
@@ -25,6 +27,7 @@ kind_of_number n =
     else (if n == 3 then Framebuffer
     else (if n == 4 then Shader else Program))))
 
+-- the number of a kind gives the kind again
 pub kind_again : (k : Kinds.Kind) → kind_of_number (number_of_kind k) ≡ k
 kind_again Buffer = refl
 kind_again Texture = refl
@@ -33,26 +36,39 @@ kind_again Framebuffer = refl
 kind_again Shader = refl
 kind_again Program = refl
 
+-- a kind is coded by its number
 abbrev pub kind_code : Coded Kinds.Kind
 kind_code = code_by ℕ coded_ℕ number_of_kind kind_of_number kind_again
 
+-- an object is coded by its kind, whether it was deleted, and how many hold it
 abbrev pub object_code : Coded Names.Object
 object_code =
     code_by (Kinds.Kind × (Bool × ℕ)) (coded× kind_code (coded× coded_bool coded_ℕ)) (λ o. (o.kind, (o.marked, o.holds)))
     (λ p. record { kind = p.0; marked = p.1.0; holds = p.1.1 }) (λ _. refl)
 
+-- the names that were given are coded by their objects and the kind that there is room for
 abbrev pub given_code : Coded Names.Given
 given_code =
     code_by (List Names.Object × Option Kinds.Kind) (coded× (coded_list object_code) (coded_option kind_code)) (λ g. (g.objects, g.room))
     (λ p. record { objects = p.0; room = p.1 }) (λ _. refl)
 
+-- the error flags are coded by the flag of each error (OpenGL ES 2.0 section 2.5)
 abbrev pub errors_code : Coded ErrorSet
 errors_code =
-    code_by (Bool × (Bool × (Bool × (Bool × Bool)))) (coded× coded_bool (coded× coded_bool (coded× coded_bool (coded× coded_bool coded_bool))))
+    code_by (Bool × (Bool × (Bool × (Bool × Bool))))
+    (coded× coded_bool (coded× coded_bool (coded× coded_bool (coded× coded_bool coded_bool))))
     (λ e. (e.invalid_enum, (e.invalid_value, (e.invalid_operation, (e.out_of_memory, e.invalid_framebuffer_operation)))))
-    (λ p. record { invalid_enum = p.0; invalid_value = p.1.0; invalid_operation = p.1.1.0; out_of_memory = p.1.1.1.0; invalid_framebuffer_operation = p.1.1.1.1 }) (λ _. refl)
+    (λ p. record {
+      invalid_enum = p.0;
+      invalid_value = p.1.0;
+      invalid_operation = p.1.1.0;
+      out_of_memory = p.1.1.1.0;
+      invalid_framebuffer_operation = p.1.1.1.1;
+    }) (λ _. refl)
 
+-- what a context keeps is coded by its names, its buffers, its error flags, and whether a write failed
 abbrev pub kept_code : Coded Kept
 kept_code =
-    code_by (Names.Given × (Stored × (ErrorSet × Bool))) (coded× given_code (coded× stored_code (coded× errors_code coded_bool))) (λ k. (k.names, (k.buffers, (k.errors, k.failed))))
+    code_by (Names.Given × (Stored × (ErrorSet × Bool))) (coded× given_code (coded× stored_code (coded× errors_code coded_bool)))
+    (λ k. (k.names, (k.buffers, (k.errors, k.failed))))
     (λ p. record { names = p.0; buffers = p.1.0; errors = p.1.1.0; failed = p.1.1.1 }) (λ _. refl)

@@ -9,8 +9,7 @@ use Rattle.gl_context.specs.Stands.{Kept, Stands}
 use Rattle.gl_context.specs.declared.context.Open.{Open}
 use Rattle.gl_context.specs.declared.context.Open.TheVariants.{Memory, Write}
 
--- a context stands for the first states, after the stream's header; or a prefix of the header was written, none of it where
--- memory ran out
+-- a context stands for the first states after the stream's header; or a prefix of the header was written, none where memory ran out
 abbrev pub Opens : Option (List ℕ) → Option (List ℕ) → Result Kept Open → Type 0
 Opens old new (Ok kept) = (new ≡ append_known old stream_start) × Stands kept first_page first_driver
 Opens old new (Err Memory) = new ≡ old

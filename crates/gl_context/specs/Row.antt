@@ -13,8 +13,7 @@ use Rattle.gl_model.specs.Errors.{raise}
 use Rattle.gl_model.specs.PageState.{PageState}
 use Rattle.gl_model.specs.Shot.{Shot}
 
--- what a call does: the rules that refuse it, in their order; whether memory may run out; and where it acts the page's next
--- state, what it returns, the commands that the driver gets and the Shot that it is to make
+-- what a call does: its rules in order, whether memory may run out, and where it acts the next state, value, commands and Shot
 pub record Row : Type 0 where
   pub rules : List Rule
   pub may_run_out : Bool

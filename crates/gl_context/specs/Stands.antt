@@ -42,7 +42,8 @@ kept_bytes None bytes = []
 
 -- how a buffer is stored
 abbrev pub stored_buffer : Buffer → StoredBuffer
-stored_buffer b = record { first_target = b.first_target; size = length b.bytes; usage = b.usage; bytes = kept_bytes b.first_target b.bytes }
+stored_buffer b =
+    record { first_target = b.first_target; size = length b.bytes; usage = b.usage; bytes = kept_bytes b.first_target b.bytes }
 
 -- the stored buffers are the page's, with what is bound
 pub record KeepsBuffers (stored : Stored) (s : BufferState) : Type 0 where

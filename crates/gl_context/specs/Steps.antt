@@ -21,8 +21,7 @@ use Rattle.gl_context.specs.declared.context.WriteFault.{WriteFault}
 abbrev pub bytes_of : List Command → List ℕ
 bytes_of commands = flat_map command_encoding commands
 
--- a call was answered by a step of the page's machine, with out of memory read off the reply; the commands that were sent
--- replay without a fault to exactly the step's Shot, and what is kept stands for the page and the driver after it
+-- the page's step gave the reply, its commands replay without a fault to exactly its Shot, and what is kept stands afterwards
 pub record Steps (w : PageState) (g : DriverState) (call : Call) (kept : Kept) (old new : Option (List ℕ)) (reply : Reply) : Type 0 where
   pub commands : List Command
   pub driver : DriverState
@@ -34,8 +33,7 @@ pub record Steps (w : PageState) (g : DriverState) (call : Call) (kept : Kept) (
   pub stands : Stands kept (step w call (is_out_of_memory reply)).page driver
   pub exact : commands ≡ sent w call (is_out_of_memory reply)
 
--- a write failed in the commands of a call: a prefix of them was sent. They replay without a fault to exactly the Shot of the
--- call's step in which memory didn't run out
+-- a write failed: a prefix was sent of commands that replay without a fault to exactly the Shot of a step with memory enough
 pub record Stops (w : PageState) (g : DriverState) (call : Call) (old new : Option (List ℕ)) (failed : WriteFault) : Type 0 where
   pub commands : List Command
   pub driver : DriverState

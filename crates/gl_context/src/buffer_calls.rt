@@ -190,7 +190,8 @@ impl Context {
         bytes: &'a [u8],
     ) -> Result<Deed<'a>, GlError>
         requires { Fits (Buffer (BufferSubData target offset bytes)) }
-        ensures acts { (w : PageState) → Keeps self.old w → IsSound w → ActsBy (sub_data_row w target offset bytes.entry) w self.new result }
+        ensures acts { (w : PageState) → Keeps self.old w → IsSound w
+            → ActsBy (sub_data_row w target offset bytes.entry) w self.new result }
         ensures sendable { IfOk result (λ deed. CanSend deed.outgoing) }
         ensures failed { self.new.failed ≡ self.old.failed }
     {
@@ -227,7 +228,8 @@ impl Context {
     /// The size in bytes of a buffer that is there, or the word of its usage.
     fn parameter(&self, handle: Handle, name: u32) -> u32
         requires { IsSome (get self.now.buffers.buffers handle) }
-        ensures { IfSome (get self.now.buffers.buffers handle) (λ b. result ≡ (if name == buffer_size then b.size else usage_word b.usage)) }
+        ensures { IfSome (get self.now.buffers.buffers handle)
+            (λ b. result ≡ (if name == buffer_size then b.size else usage_word b.usage)) }
     {
         if name == BUFFER_SIZE {
             self.buffers.size(handle)

@@ -128,7 +128,8 @@ impl Context {
     ) -> Result<Reply, WriteFault>
         requires working { self.old.failed ≡ false }
         requires fits { Fits call.now }
-        ensures steps { (w : PageState) (g : DriverState) → Stands self.old w g → StepsOrStops w g call.now self.new (S.held stream.old) (S.held stream.new) result }
+        ensures steps { (w : PageState) (g : DriverState) → Stands self.old w g
+            → StepsOrStops w g call.now self.new (S.held stream.old) (S.held stream.new) result }
         ensures cause { HasCause (S.faults stream.old) (S.faults stream.new) result }
         ensures failed { IsOk result ↔ (self.new.failed ≡ false) }
         ensures ticks { steps.new ≡ steps.old }

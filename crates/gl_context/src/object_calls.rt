@@ -69,7 +69,8 @@ impl Context {
     /// Marks a live buffer, and lets it go.
     fn mark_buffer(&mut self, handle: Handle)
         requires { Finds self.old.names.objects handle kind.Buffer find.Live }
-        ensures keeps { (w : PageState) → Keeps self.old w → is_live w kind.Buffer handle ≡ true → Keeps self.new (delete_row w object.Buffer handle).next }
+        ensures keeps { (w : PageState) → Keeps self.old w → is_live w kind.Buffer handle ≡ true
+            → Keeps self.new (delete_row w object.Buffer handle).next }
         ensures failed { self.new.failed ≡ self.old.failed }
     {
         self.names.delete(handle);

@@ -13,7 +13,8 @@ bind_rules s target number =
 
 -- bufferData with a size that has a sign
 abbrev pub signed_size_rules : BufferState → ℕ → ℕ → ℤ → List Rule
-signed_size_rules s target usage size = bad_target target ∷ bad_usage usage ∷ bad_signed_size size ∷ nothing_bound (bound_view s target) ∷ []
+signed_size_rules s target usage size =
+    bad_target target ∷ bad_usage usage ∷ bad_signed_size size ∷ nothing_bound (bound_view s target) ∷ []
 
 -- bufferData with a size
 abbrev pub size_rules : BufferState → ℕ → ℕ → ℕ → List Rule

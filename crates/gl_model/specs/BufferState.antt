@@ -44,7 +44,8 @@ drop_buffer number s = record (with_buffer number None s) { bound = unbind numbe
 -- bindBuffer: the target of a word has the buffer, or none where the number is 0, and the buffer keeps its first target
 abbrev pub bind_buffer : ℕ → ℕ → BufferState → BufferState
 bind_buffer target number s =
-    record (changed_buffer (take_target (buffer_target_of target)) number s) { bound = bind (buffer_target_of target) (non_zero number) s.bound }
+    record (changed_buffer (take_target (buffer_target_of target)) number s)
+    { bound = bind (buffer_target_of target) (non_zero number) s.bound }
 
 -- bufferData: the bound buffer has these bytes alone, and the usage of a word
 abbrev pub fill_buffer : ℕ → ℕ → List ℕ → BufferState → BufferState

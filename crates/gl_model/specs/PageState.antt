@@ -41,13 +41,11 @@ same_kind kind.Shader kind.Shader = true
 same_kind kind.Program kind.Program = true
 same_kind _ _ = false
 
--- how many objects that are there, and how many bindings, hold the object of a handle so that it outlives its delete
--- (OpenGL ES 2.0 sections 2.10.1, 2.10.3, 4.4.2 and appendix C); nothing holds a buffer so
+-- how many objects and bindings hold an object so that it outlives its delete (OpenGL ES 2.0 appendix C); nothing holds a buffer so
 abbrev pub holders : PageState → ℕ → ℕ
 holders w handle = 0
 
--- Held: an object is there while it isn't marked, and beyond that while it is held; buffers and framebuffers are not
--- (OpenGL ES 2.0 appendix C)
+-- whether objects of a kind are there after their delete while they are held; buffers and framebuffers aren't (OpenGL ES 2.0 appendix C)
 abbrev pub outlives : Kinds.Kind → Bool
 outlives kind.Buffer = false
 outlives kind.Framebuffer = false
