@@ -2,7 +2,7 @@
 use Rattle.std.specs.Prelude.{◌≡◌, ℕ, ℤ, pos, negsuc, Bool, true, false, not, ◌||◌, nat_le, if◌then◌else◌, Option, Some, None, Result, Ok, Err, List, [], ◌∷◌}
 use Rattle.std.specs.Option.{option_map, option_and_then}
 use Rattle.std.specs.Ordering.{nat_cmp}
-use Rattle.std.specs.FinMap.{FinMap, empty, get, insert, remove}
+use Rattle.std.specs.FinMap.{FinMap, empty, from_entries, get, insert, remove}
 use Rattle.gl_numbers.specs.declared.kinds.Kind.{Kind}
 use Rattle.gl_numbers.specs.declared.kinds.Kind.TheVariants.{Renderbuffer, Framebuffer}
 use Rattle.gl_numbers.specs.declared.errors.GlError.{GlError}
@@ -20,6 +20,10 @@ use Rattle.framebuffer_rules.specs.declared.targets.Attachments.{Attachments}
 pub record Stored : Type 0 where
   pub renderbuffers : FinMap nat_cmp Storage
   pub framebuffers : FinMap nat_cmp Attachments
+
+-- what two lists of entries store
+abbrev pub stored_in : List (ℕ × Storage) → List (ℕ × Attachments) → Stored
+stored_in renderbuffers framebuffers = record { renderbuffers = from_entries renderbuffers; framebuffers = from_entries framebuffers }
 
 -- nothing is made
 abbrev pub no_targets : Stored

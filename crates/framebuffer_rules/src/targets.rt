@@ -62,15 +62,14 @@ pub struct Targets {
 }
 
 impl Model for Targets {
-    ghost use Rattle.std.specs.FinMap.{from_entries};
-    ghost use Rattle.framebuffer_rules.specs.Targets.{Stored};
+    ghost use Rattle.framebuffer_rules.specs.Targets.{Stored, stored_in};
     ghost use Rattle.framebuffer_rules.specs.Codes.{stored_code};
 
     ghost Value = { Stored };
 
     ghost coded = { stored_code };
 
-    ghost view = { λ a. record { renderbuffers = from_entries a.renderbuffers.entries; framebuffers = from_entries a.framebuffers.entries } };
+    ghost view = { λ a. stored_in a.renderbuffers.entries a.framebuffers.entries };
 }
 
 #[tactic(auto, using(gl_numbers::proofs::Maps::of_maps))]

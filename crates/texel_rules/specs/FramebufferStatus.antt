@@ -52,7 +52,8 @@ differ a b = false
 
 -- whether no image is attached
 abbrev pub is_bare : Attached → Bool
-is_bare images = not (is_some images.color) && not (is_some images.depth) && not (is_some images.stencil) && not (is_some images.depth_stencil)
+is_bare images =
+    not (is_some images.color) && not (is_some images.depth) && not (is_some images.stencil) && not (is_some images.depth_stencil)
 
 -- whether images are attached at two of the points of depth, stencil, and depth and stencil
 abbrev pub has_pair : Attached → Bool
@@ -62,7 +63,8 @@ has_pair images =
 
 -- whether an image has no texels or is unfit for its point
 abbrev pub has_unfit : Attached → Bool
-has_unfit images = spoils Color images.color || spoils Depth images.depth || spoils Stencil images.stencil || spoils DepthStencil images.depth_stencil
+has_unfit images =
+    spoils Color images.color || spoils Depth images.depth || spoils Stencil images.stencil || spoils DepthStencil images.depth_stencil
 
 -- whether two images differ in width or height
 abbrev pub has_sizes : Attached → Bool

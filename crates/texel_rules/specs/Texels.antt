@@ -35,8 +35,10 @@ texel_of_bytes Rgba bytes = texel (slice_index bytes 0) (slice_index bytes 1) (s
 -- a texel of a type: of bytes, or the fields of a word, red in its highest bits
 abbrev pub texel_by : TexelType → Format → List ℕ → Texel
 texel_by UnsignedByte format bytes = texel_of_bytes format bytes
-texel_by UnsignedShort4444 format bytes = texel (field (word_of bytes) 12 4) (field (word_of bytes) 8 4) (field (word_of bytes) 4 4) (field (word_of bytes) 0 4)
-texel_by UnsignedShort5551 format bytes = texel (field (word_of bytes) 11 5) (field (word_of bytes) 6 5) (field (word_of bytes) 1 5) (field (word_of bytes) 0 1)
+texel_by UnsignedShort4444 format bytes =
+    texel (field (word_of bytes) 12 4) (field (word_of bytes) 8 4) (field (word_of bytes) 4 4) (field (word_of bytes) 0 4)
+texel_by UnsignedShort5551 format bytes =
+    texel (field (word_of bytes) 11 5) (field (word_of bytes) 6 5) (field (word_of bytes) 1 5) (field (word_of bytes) 0 1)
 texel_by UnsignedShort565 format bytes = texel (field (word_of bytes) 11 5) (field (word_of bytes) 5 6) (field (word_of bytes) 0 5) 0
 
 -- the texel that lies in these bytes

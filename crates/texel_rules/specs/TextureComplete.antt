@@ -33,12 +33,14 @@ has_form Target.CubeMap base = base.width == base.height
 
 -- whether the base is there on each face, with one size, format and type, has texels, and is square on a cube
 abbrev pub are_bases : TexTarget → Levels → LevelInfo → Bool
-are_bases target levels base = has_texels base && has_form target base && each_face (faces_of target) (λ face. is_level base (levels face 0))
+are_bases target levels base =
+    has_texels base && has_form target base && each_face (faces_of target) (λ face. is_level base (levels face 0))
 
 -- whether a base may be sampled so: one that isn't a power of two only clamped, and without its other levels
 abbrev pub is_sampled : Parameters → LevelInfo → Bool
 is_sampled parameters base =
-    is_power_level base || ((parameters.wrap_s == clamp_to_edge) && (parameters.wrap_t == clamp_to_edge) && not (is_mipmap_filter parameters.min_filter))
+    is_power_level base
+    || ((parameters.wrap_s == clamp_to_edge) && (parameters.wrap_t == clamp_to_edge) && not (is_mipmap_filter parameters.min_filter))
 
 -- whether each level from the base to 1x1 is there on a face, each side half of the one before
 abbrev pub are_levels : (ℕ → Option LevelInfo) → LevelInfo → Bool

@@ -1,7 +1,7 @@
 //! Texels: how a page's bytes are taken apart into channels, multiplied by their alpha and packed again, row by row
-//! (OpenGL ES 2.0 section 3.6.2, WebGL 1.0 section 5.14.8), and what textures and framebuffers say of their images
-//! (OpenGL ES 2.0 sections 3.7.10 and 4.4.5). Each function is its definition: `upload_row` writes exactly the uploaded texels of
-//! a row.
+//! (OpenGL ES 2.0 section 3.6.2, WebGL 1.0 section 5.14.8). The contract of `plain_row` is that it writes each texel of a
+//! row converted, in order, and nothing else. The rules of completeness of textures and framebuffers (OpenGL ES 2.0
+//! sections 3.7.10 and 4.4.5) stand in `specs/` for the crates that keep these.
 #![tactic(auto)]
 
 mod layouts;

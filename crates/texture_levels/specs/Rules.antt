@@ -24,7 +24,8 @@ Answers refusal (Err e) = refusal ≡ Some e
 
 -- bindTexture: the texture took the other target before (OpenGL ES 2.0 section 3.7.13)
 abbrev pub other_target : TexTarget → Option TexTarget → Rule
-other_target target taken = when (option_map_or (λ t. not (texture_target_word t == texture_target_word target)) taken false) invalid_operation
+other_target target taken =
+    when (option_map_or (λ t. not (texture_target_word t == texture_target_word target)) taken false) invalid_operation
 
 -- what taking a target is refused for
 abbrev pub target_refusal : TexTarget → Option TexTarget → Option GlError
@@ -118,7 +119,8 @@ no_level level = when (not (is_some level)) invalid_operation
 -- texSubImage2D: the rectangle isn't wholly inside the level (OpenGL ES 2.0 section 3.7.2)
 abbrev pub outside_level : Rectangle → Option LevelInfo → Rule
 outside_level r level =
-    when (option_map_or (λ l. nat_lt l.width (word r.x + word r.width) || nat_lt l.height (word r.y + word r.height)) level false) invalid_value
+    when (option_map_or (λ l. nat_lt l.width (word r.x + word r.width) || nat_lt l.height (word r.y + word r.height)) level false)
+    invalid_value
 
 -- texSubImage2D: the format or the type isn't the level's (WebGL 1.0 section 5.14.8)
 abbrev pub other_layout : Layout → Option LevelInfo → Rule
@@ -150,7 +152,9 @@ unlike_bases target slots base = when (option_map_or (λ b. not (are_bases targe
 abbrev pub mipmap_refusal : Option TexTarget → Slots → Option GlError
 mipmap_refusal None slots = first_refusal (no_base None ∷ [])
 mipmap_refusal (Some target) slots =
-    first_refusal (no_base (base_by (Some target) slots) ∷ odd_base (base_by (Some target) slots) ∷ unlike_bases target slots (base_by (Some target) slots) ∷ [])
+    first_refusal
+    (no_base (base_by (Some target) slots) ∷ odd_base (base_by (Some target) slots)
+    ∷ unlike_bases target slots (base_by (Some target) slots) ∷ [])
 
 -- what generateMipmap is refused for; a texture that isn't there has no base
 abbrev pub mipmap_refusal_at : Stored → ℕ → Option GlError

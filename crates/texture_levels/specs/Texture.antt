@@ -17,11 +17,7 @@ pub record Texture : Type 0 where
   pub parameters : Parameters
   pub slots : Slots
 
--- how many faces there are: that of a two-dimensional texture and the six of a cube map
-abbrev pub face_count : ℕ
-face_count = 7
-
--- how many slots a texture has
+-- how many slots a texture has: the levels of the face of a two-dimensional texture and of the six of a cube map
 abbrev pub slot_count : ℕ
 slot_count = 84
 
