@@ -16,8 +16,8 @@ directly above it that says it in words, which is its meaning here; where a stan
 section of WebGL 1.0, OpenGL ES 2.0.25 or GLSL ES 1.00.17. The others are this project's own. Crates stand in the order of
 `crates.txt`. `docs/definitions.py` makes this page from the files themselves.
 
-A contract of a crate also reads the constants of its code, as `BUFFER_BYTES_MAX` and `HANDLES_MAX` of
-`gl_numbers/src/limits.rt`, the most bytes of a buffer and the most handles of a page.
+Words and limits stand as numerals in these definitions, so that a constant of the code that is another is refused by the
+prover. A few contracts also read constants of the code that their own facts fix, as the eight bytes of a header.
 """
 
 
