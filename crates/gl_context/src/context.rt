@@ -134,17 +134,17 @@ impl Context {
         ensures failed { IsOk result ↔ (self.new.failed ≡ false) }
         ensures ticks { steps.new ≡ steps.old }
     {
-        let deed = match self.act(call) {
+        let Deed { value, outgoing } = match self.act(call) {
             Ok(deed) => deed,
             Err(error) => return Ok(self.raise(error)),
         };
-        let Ok(()) = send(&deed.outgoing, stream) else {
+        let Ok(()) = send(&outgoing, stream) else {
             self.failed = true;
             return Err(WriteFault);
         };
         Ok(Reply {
             raised: NO_ERROR,
-            value: deed.value,
+            value,
         })
     }
 }
