@@ -1,7 +1,4 @@
 pub mod Lengths
-pub mod ObjectLaws
-pub mod BufferLaws
-pub mod QueryLaws
 pub mod TableLaws
 pub mod Refusals
 pub mod Sending

@@ -52,7 +52,8 @@ Judges at number len (Err _) = ⊥
 -- the header that was taken
 abbrev pub TakesHead : Option (List ℕ) → Option (List ℕ) → Heads.Head → Type 0
 TakesHead old new Closing = old ≡ prepend_known closing_record new
-TakesHead old new (Record operation len) = (old ≡ prepend_known (le32 (row_of operation).number ++ le32 len) new) × IsHeader (row_of operation).number len operation
+TakesHead old new (Record operation len) =
+    (old ≡ prepend_known (le32 (row_of operation).number ++ le32 len) new) × IsHeader (row_of operation).number len operation
 
 -- what is seen after the closing record
 abbrev pub EndsClosed : ℕ → Option (List ℕ) → Option (List ℕ) → Result (Unit {0}) ReadEnd → Type 0

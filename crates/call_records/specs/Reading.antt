@@ -57,7 +57,8 @@ pub record FailsInRecord (old new : List ℕ) : Type 0 where
 abbrev pub StartRefuses : List ℕ → List ℕ → ReadEnd → Type 0
 StartRefuses old new (Truncated n) = (length old < header_bytes) × (new ≡ []) × (n ≡ length old)
 StartRefuses old new (Magic n) = (n ≡ 0) × (words : TwoWords old new) × (words.first ≡ session_magic → ⊥)
-StartRefuses old new (Version n) = (n ≡ 4) × (words : TwoWords old new) × (words.first ≡ session_magic) × (words.second ≡ session_version → ⊥)
+StartRefuses old new (Version n) =
+    (n ≡ 4) × (words : TwoWords old new) × (words.first ≡ session_magic) × (words.second ≡ session_version → ⊥)
 StartRefuses old new ReadFault = FailsInStart old new
 StartRefuses old new _ = ⊥
 
@@ -71,7 +72,9 @@ abbrev pub Refuses : ℕ → List ℕ → List ℕ → ReadEnd → Type 0
 Refuses at old new (Truncated n) = IsCutShort old × (new ≡ []) × (n ≡ at + length old)
 Refuses at old new (UnknownOp n) = (n ≡ at) × (header : TwoWords old new) × (is_known header.first ≡ false)
 Refuses at old new (BodyLong n) = (n ≡ at) × (header : TwoWords old new) × (is_known header.first ≡ true) × (body_max < header.second)
-Refuses at old new (BodyShape n) = (n ≡ at) × (header : TwoWords old new) × (is_known header.first ≡ true) × (header.second ≤ body_max) × (has_shape header.first header.second ≡ false)
+Refuses at old new (BodyShape n) =
+    (n ≡ at) × (header : TwoWords old new) × (is_known header.first ≡ true) × (header.second ≤ body_max)
+    × (has_shape header.first header.second ≡ false)
 Refuses at old new (AfterEnd n) = (n ≡ at + header_bytes) × (byte : ℕ) × (old ≡ closing_record ++ (byte ∷ new))
 Refuses at old new (InputLong n) = (n ≡ at) × (input_max < at + header_bytes) × (new ≡ old)
 Refuses at old new ReadFault = FailsInRecord old new

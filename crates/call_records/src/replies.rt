@@ -86,7 +86,8 @@ fn write_active<O: Sink>(
     out: &mut O,
 ) -> Result<(), Failed>
     requires { length name.now ≤ 256 }
-    ensures bytes { Sends (O.held out.old) (O.held out.new) result (le32 raised ++ (le32 TAG_ACTIVE ++ (le32 size ++ (le32 kind ++ (le32 (length name.now) ++ name.now))))) }
+    ensures bytes { Sends (O.held out.old) (O.held out.new) result
+        (le32 raised ++ (le32 TAG_ACTIVE ++ (le32 size ++ (le32 kind ++ (le32 (length name.now) ++ name.now))))) }
     ensures cause { HasCause (O.faults out.old) (O.faults out.new) result }
 {
     let Ok(()) = write_all(&two_words(raised, TAG_ACTIVE), out) else {

@@ -24,7 +24,8 @@ fn take_words(bytes: &[u8], into: &mut [u32])
 fn list_at(bytes: &[u8]) -> Option<(Words, usize)>
     ensures list { IfSome result (λ r. bytes.now ≡ (le32 (length r.0) ++ flat_map le32 r.0) ++ drop r.1 bytes.now) }
     ensures size { IfSome result (λ r. r.1 ≡ length (le32 (length r.0) ++ flat_map le32 r.0)) }
-    ensures none { IsNone result → (words rest : List ℕ) → length words ≤ 16 → bytes.now ≡ (le32 (length words) ++ flat_map le32 words) ++ rest → ⊥ }
+    ensures none { IsNone result → (words rest : List ℕ) → length words ≤ 16
+        → bytes.now ≡ (le32 (length words) ++ flat_map le32 words) ++ rest → ⊥ }
 {
     if bytes.len() < 4 {
         return None;
@@ -73,7 +74,8 @@ fn name_at(bytes: &[u8]) -> Option<(Name, usize)>
 fn active_at(bytes: &[u8]) -> Option<(Value, usize)>
     ensures value { IfSome result (λ r. (tag_of r.0 ≡ TAG_ACTIVE) × (bytes.now ≡ content_of r.0 ++ drop r.1 bytes.now)) }
     ensures size { IfSome result (λ r. r.1 ≡ length (content_of r.0)) }
-    ensures none { IsNone result → (size kind : ℕ) (name rest : List ℕ) → length name ≤ 256 → bytes.now ≡ content_of (Active size kind name) ++ rest → ⊥ }
+    ensures none { IsNone result → (size kind : ℕ) (name rest : List ℕ) → length name ≤ 256
+        → bytes.now ≡ content_of (Active size kind name) ++ rest → ⊥ }
 {
     if bytes.len() < 8 {
         return None;
@@ -90,7 +92,8 @@ fn active_at(bytes: &[u8]) -> Option<(Value, usize)>
 fn value_at(tag: u32, bytes: &[u8]) -> Option<(Value, usize)>
     ensures value { IfSome result (λ r. (tag_of r.0 ≡ tag) × (bytes.now ≡ content_of r.0 ++ drop r.1 bytes.now)) }
     ensures size { IfSome result (λ r. r.1 ≡ length (content_of r.0)) }
-    ensures none { IsNone result → (value : Values.Value) (rest : List ℕ) → IsValue value → tag_of value ≡ tag → bytes.now ≡ content_of value ++ rest → ⊥ }
+    ensures none { IsNone result → (value : Values.Value) (rest : List ℕ) → IsValue value → tag_of value ≡ tag
+        → bytes.now ≡ content_of value ++ rest → ⊥ }
 {
     match tag {
         TAG_NOTHING => Some((Value::Nothing, 0)),

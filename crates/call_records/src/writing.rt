@@ -24,7 +24,8 @@ fn write_body<O: Sink>(fields: &[u8], tail: &[u8], out: &mut O) -> Result<(), Fa
 #[tactic(auto, using(crate::proofs::Sending::two_then, crate::proofs::Sending::two_stop))]
 fn write_record<O: Sink>(number: u32, fields: &[u8], tail: &[u8], out: &mut O) -> Result<(), Failed>
     requires { length fields.now + length tail.now < 2 ^ 32 }
-    ensures bytes { Sends (O.held out.old) (O.held out.new) result (le32 number ++ (le32 (length fields.now + length tail.now) ++ (fields.now ++ tail.now))) }
+    ensures bytes { Sends (O.held out.old) (O.held out.new) result
+        (le32 number ++ (le32 (length fields.now + length tail.now) ++ (fields.now ++ tail.now))) }
     ensures cause { HasCause (O.faults out.old) (O.faults out.new) result }
 {
     let len = fields.len() + tail.len();

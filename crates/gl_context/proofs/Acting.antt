@@ -28,8 +28,8 @@ use Rattle.buffer_store.specs.Rules as store
 use Rattle.call_records.specs.declared.buffer_calls.Fill.{Fill}
 use Rattle.call_records.specs.declared.buffer_calls.Fill.TheVariants.{Size, Bytes}
 use Rattle.gl_model.specs.Buffers.{Buffer, new_buffer, view_of, take_target, take_data, patch}
-use Rattle.gl_model.specs.BufferState.{BufferState, changed_buffer, changed_if_bound, changed_bound, bind_buffer, fill_buffer, patch_buffer, view_at, bound_view}
-use Rattle.gl_model.specs.PageState.{PageState, is_live, new_object}
+use Rattle.gl_model.specs.BufferState.{BufferState, changed_buffer, changed_if_bound, changed_bound, make_buffer, drop_buffer, bind_buffer, fill_buffer, patch_buffer, view_at, bound_view}
+use Rattle.gl_model.specs.PageState.{PageState, is_live, new_object, holders}
 use Rattle.gl_context.specs.Row.{refusal_of}
 use Rattle.gl_context.specs.ObjectRows.{create_row, delete_row, next_handle}
 use Rattle.call_records.specs.declared.object_calls.ObjectKind.TheVariants as object
@@ -37,6 +37,7 @@ use Rattle.gl_context.specs.BufferRows.{bind_row, data_row, sub_data_row, fill_r
 use Rattle.gl_context.specs.Filled.{Fills}
 use Rattle.gl_context.specs.Stands.{Kept, Keeps, KeepsBuffers, kept_bytes, stored_buffer, IsSoundBuffer, AreSoundBuffers, IsSound}
 use Rattle.gl_context.proofs.Keeping.{Stores, stores-make, stores-drop, stores-changed, stores-same, stores-if_bound, stores-same_bound, bound-changed_bound, view-stored, bound_view-stored, names-made, names-marked}
+use Rattle.gl_context.proofs.Parts.{keeps-buffers, keeps-objects}
 use Rattle.gl_context.proofs.Sounding.{first-some, length-patch}
 
 -- what isn't there is none
@@ -98,14 +99,10 @@ acts-bind kept w t target handle bound new k sound is there named judged after =
     let taken = stored-taken t (w.buffers.contents handle) (sound.buffers.each handle) other in
     let after' : new ≡ store.bound_to_target kept.buffers t (non_zero handle) = after ∙ ap (store.bound_to_target kept.buffers t) named in (
       rw is (rw there (rw other refl)),
-      rw after' (rw is (record {
-        names = record { count = k.names.count; each = k.names.each };
-        buffers = record {
-          each = stores-bind kept.buffers.buffers w.buffers t handle k.buffers.each none taken;
-          bound = ap (bind (Some t) (non_zero handle)) k.buffers.bound;
-        };
-        errors = k.errors;
-      })),
+      rw after' (rw is (keeps-buffers kept w _ _ k (record {
+        each = stores-bind kept.buffers.buffers w.buffers t handle k.buffers.each none taken;
+        bound = ap (bind (Some t) (non_zero handle)) k.buffers.bound;
+      }))),
     )
 
 -- what is bound has a first target
@@ -158,14 +155,10 @@ acts-data kept w t u target usage fill filling new k sound is used fills judged 
     let filled = stored-filled t u usage fill filling (option_and_then w.buffers.contents (binding w.buffers.bound t)) (bound-first w.buffers target t (binding w.buffers.bound t) here is sound.buffers) used fills in
     let stores = stores-if_bound kept.buffers.buffers w.buffers (binding w.buffers.bound t) (λ _. buffer_of t filling u) (take_data usage (content_of fill)) k.buffers.each filled in (
       unrefused-data w kept.buffers t u target usage fill filling k.buffers is used fills judged,
-      rw after (record {
-        names = record { count = k.names.count; each = k.names.each };
-        buffers = record {
-          each = rw (bound, here) stores;
-          bound = k.buffers.bound ∙ sym (bound-changed_bound (take_data usage (content_of fill)) target w.buffers);
-        };
-        errors = k.errors;
-      }),
+      rw after (keeps-buffers kept w (store.filled kept.buffers t filling u) (fill_buffer target usage (content_of fill) w.buffers) k (record {
+        each = rw (bound, here) stores;
+        bound = k.buffers.bound ∙ sym (bound-changed_bound (take_data usage (content_of fill)) target w.buffers);
+      })),
     )
 
 -- how a buffer of which some bytes were replaced is stored
@@ -250,11 +243,7 @@ pub acts-sub_data : (kept : Kept) (w : PageState) (t : BufferTarget) (target : �
 acts-sub_data kept w t target offset part new k sound is judged after =
     let rules = part-rules kept.buffers w.buffers t target offset part k.buffers is judged in (
       rules,
-      rw after (record {
-        names = record { count = k.names.count; each = k.names.each };
-        buffers = keeps-patch kept w t target offset part k sound is rules;
-        errors = k.errors;
-      }),
+      rw after (keeps-buffers kept w _ _ k (keeps-patch kept w t target offset part k sound is rules)),
     )
 
 -- createBuffer
@@ -267,19 +256,16 @@ acts-create kept w room k sound unspent =
     let count = k.names.count in
     let few = sound.objects.count in
     let next : Names.next_handle kept.names ≡ next_handle w = ap (λ n. n + 1) count in
-    let names = names-made kept.names w (new_object kind.Buffer) room k.names in (
+    let stored : Stored = record kept.buffers { buffers = insert kept.buffers.buffers (Names.next_handle kept.names) new_stored } in
+    let bufs : KeepsBuffers stored (make_buffer (next_handle w) w.buffers) = record {
+      each = rw next (stores-make kept.buffers.buffers w.buffers (next_handle w) k.buffers.each);
+      bound = k.buffers.bound;
+    } in (
       elim (leb_tells 1048576 (length w.objects)) [
         | inl all ↦ absurd (unspent (omega (arith, few, count, all.1)))
         | inr left ↦ rw left.0 refl
       ],
-      record {
-        names = record { count = names.count; each = names.each };
-        buffers = record {
-          each = rw next (stores-make kept.buffers.buffers w.buffers (next_handle w) k.buffers.each);
-          bound = k.buffers.bound;
-        };
-        errors = k.errors;
-      },
+      keeps-objects kept w _ stored _ _ k (names-made kept.names w.objects (holders w) (new_object kind.Buffer) room k.names refl) bufs,
     )
 
 -- deleteBuffer of a live buffer
@@ -289,12 +275,8 @@ pub acts-delete : (kept : Kept) (w : PageState) (room : Option Kind) (handle : �
       buffers = store.without_buffer kept.buffers handle;
     }) (delete_row w object.Buffer handle).next
 acts-delete kept w room handle k live =
-    let names = names-marked kept.names w handle room k.names in
-    rw live (record {
-      names = record { count = names.count; each = names.each };
-      buffers = record {
-        each = stores-drop kept.buffers.buffers w.buffers handle k.buffers.each;
-        bound = ap (unbind handle) k.buffers.bound;
-      };
-      errors = k.errors;
-    })
+    let bufs : KeepsBuffers (store.without_buffer kept.buffers handle) (drop_buffer handle w.buffers) = record {
+      each = stores-drop kept.buffers.buffers w.buffers handle k.buffers.each;
+      bound = ap (unbind handle) k.buffers.bound;
+    } in
+    rw live (keeps-objects kept w _ (store.without_buffer kept.buffers handle) _ _ k (names-marked kept.names w.objects (holders w) handle room k.names) bufs)

@@ -9,7 +9,6 @@ use Rattle.std.proofs.lemmas.List.{length-replicate, drop_all, take-append-drop}
 use Rattle.std.proofs.lemmas.Option.{slice_get_past}
 use Rattle.std.proofs.lemmas.List.Elements.{All-nil}
 use Rattle.std.proofs.Math.Bool.{and-false}
-use Rattle.gl_model.specs.Errors.{ErrorSet}
 use Rattle.gl_numbers.specs.BufferBindings.{Bindings, bound_to, binding, non_zero}
 use Rattle.gl_numbers.specs.BufferRules.{BufferView, is_other, is_negative, whole}
 use Rattle.gl_numbers.specs.BufferWords.{buffer_target_of, usage_of}
@@ -46,6 +45,7 @@ use Rattle.gl_context.specs.ObjectRows.{create_row, delete_row, drops, deleted, 
 use Rattle.gl_context.specs.BufferRows.{bind_row, data_row, sub_data_row, fill_rules, content_of, part_sent, fill_sent, bound_name}
 use Rattle.gl_context.specs.Follows.{Follows, IsGood}
 use Rattle.gl_context.specs.Stands.{IsSound, AreSoundObjects, IsSoundBuffer, Agrees, AgreesOnBuffers, buffer_name}
+use Rattle.gl_context.proofs.Parts.{sound-objects, agrees-buffers}
 use Rattle.gl_context.proofs.Agreeing.{agrees-with, agrees-drop, agrees-bind, agrees-bound, named, name-zero, view-agrees, bound_view-agrees}
 use Rattle.gl_context.proofs.Sounding.{sound-make, sound-drop, sound-bind, sound-fill, sound-patch, first-bound_to}
 use Rattle.gl_context.proofs.Keeping.{length-changed, bound-changed_bound}
@@ -60,20 +60,13 @@ all-cons c cs one rest (suc k) d within = rest k d (omega arith)
 all-one : (c : Command) → Stream.Fits c → All Stream.Fits (c ∷ [])
 all-one c one = all-cons c [] one (All-nil Stream.Fits)
 
--- a call that asks
-pub good-asking : (w : PageState) (g : DriverState) (row : Row) → IsSound w → Agrees w g → row.next ≡ w → row.commands ≡ [] → row.made ≡ None → IsGood g row
-good-asking w g row sound agrees same silent none = record {
-  sound = rw same sound;
+-- a call that sends nothing and makes nothing, where the page's next state is sound and agrees with the driver's as it is
+pub good-quiet : (g : DriverState) (row : Row) → IsSound row.next → Agrees row.next g → row.commands ≡ [] → row.made ≡ None → IsGood g row
+good-quiet g row sound agrees silent none = record {
+  sound = sound;
   fit = rw silent (All-nil Stream.Fits);
-  follows = rw (same, silent, none) (record { driver = g; replayed = replay-none g; agrees = agrees });
+  follows = rw (silent, none) (record { driver = g; replayed = replay-none g; agrees = agrees });
 }
-
--- the error flags are no part of what is sound, nor of the driver's state
-pub sound-errors : (w : PageState) (errors : ErrorSet) → IsSound w → IsSound (record w { errors = errors })
-sound-errors w errors s = record { objects = record { count = s.objects.count; buffers = s.objects.buffers }; buffers = s.buffers }
-
-pub agrees-errors : (w : PageState) (g : DriverState) (errors : ErrorSet) → Agrees w g → Agrees (record w { errors = errors }) g
-agrees-errors w g errors a = record { buffers = a.buffers }
 
 -- one command that isn't refused, and that makes nothing
 follows-one : (g : DriverState) (c : Command) (w : PageState) → Driver.refusal g c ≡ None → Driver.outside g c ≡ false → Driver.shot g c ≡ None
@@ -125,20 +118,18 @@ good-create w g sound agrees unrefused =
     let name = buffer_name (next_handle w) in
     let apart : nat_eq name 0 ≡ false = ne_eqb name 0 (λ e. omega arith) in
     let unused : g.buffers.contents name ≡ None = agrees.buffers.made (next_handle w) ∙ free in
+    let objects : AreSoundObjects (w.objects ++ new_object kind.Buffer ∷ []) (make_buffer (next_handle w) w.buffers) = record {
+      count = omega (arith, left, length-append w.objects (new_object kind.Buffer ∷ []));
+      buffers = λ h. elim (eqb_tells h (next_handle w)) [
+        | inl same ↦ rw same.0 (sym (ap live (object_at-made w.objects (new_object kind.Buffer) h ∙ ap (λ b. cond b (Some (new_object kind.Buffer)) (object_at w.objects h)) same.0)))
+        | inr other ↦ rw other.0 (sound.objects.buffers h ∙ sym (ap live (object_at-made w.objects (new_object kind.Buffer) h ∙ ap (λ b. cond b (Some (new_object kind.Buffer)) (object_at w.objects h)) other.0)))
+      ];
+    } in
     record {
-      sound = record {
-        objects = record {
-          count = omega (arith, left, length-append w.objects (new_object kind.Buffer ∷ []));
-          buffers = λ h. elim (eqb_tells h (next_handle w)) [
-            | inl same ↦ rw same.0 (sym (ap live (object_at-made w.objects (new_object kind.Buffer) h ∙ ap (λ b. cond b (Some (new_object kind.Buffer)) (object_at w.objects h)) same.0)))
-            | inr other ↦ rw other.0 (sound.objects.buffers h ∙ sym (ap live (object_at-made w.objects (new_object kind.Buffer) h ∙ ap (λ b. cond b (Some (new_object kind.Buffer)) (object_at w.objects h)) other.0)))
-          ];
-        };
-        buffers = sound-make (next_handle w) w.buffers free sound.buffers;
-      };
+      sound = sound-objects w _ _ sound objects (sound-make (next_handle w) w.buffers free sound.buffers);
       fit = all-one _ (fits_make name (omega (arith, left)));
       follows = follows-one g (command.Object (MakeBuffer name)) (create_row w).next (rw (apart, unused) refl) refl refl
-          (record { buffers = agrees-with (next_handle w) (Some new_buffer) w.buffers g.buffers agrees.buffers });
+          (agrees-buffers w g _ _ agrees (agrees-with (next_handle w) (Some new_buffer) w.buffers g.buffers agrees.buffers));
     }
 
 -- an object that was marked is no live buffer
@@ -176,19 +167,18 @@ good-deleted w g handle sound agrees e =
     let small = live-small w handle sound e in
     let there : is_some (g.buffers.contents (buffer_name handle)) ≡ true = ap is_some (agrees.buffers.made handle) ∙ sound.objects.buffers handle ∙ e in
     let count = length-changed w.objects handle mark in
-    let few = sound.objects.count in (
-      record {
-        objects = record {
-          count = omega (arith, count, few);
-          buffers = λ h. elim (eqb_tells h handle) [
-            | inl same ↦ rw same.0 (sym (ap live (object_at-changed w.objects handle mark h ∙ ap (λ b. cond b (option_map mark (object_at w.objects handle)) (object_at w.objects h)) same.0) ∙ live-marked (object_at w.objects handle)))
-            | inr other ↦ rw other.0 (sound.objects.buffers h ∙ sym (ap live (object_at-changed w.objects handle mark h ∙ ap (λ b. cond b (option_map mark (object_at w.objects handle)) (object_at w.objects h)) other.0)))
-          ];
-        };
-        buffers = sound-drop handle w.buffers sound.buffers;
-      },
+    let few = sound.objects.count in
+    let objects : AreSoundObjects (changed w.objects handle mark) (drop_buffer handle w.buffers) = record {
+      count = omega (arith, count, few);
+      buffers = λ h. elim (eqb_tells h handle) [
+        | inl same ↦ rw same.0 (sym (ap live (object_at-changed w.objects handle mark h ∙ ap (λ b. cond b (option_map mark (object_at w.objects handle)) (object_at w.objects h)) same.0) ∙ live-marked (object_at w.objects handle)))
+        | inr other ↦ rw other.0 (sound.objects.buffers h ∙ sym (ap live (object_at-changed w.objects handle mark h ∙ ap (λ b. cond b (option_map mark (object_at w.objects handle)) (object_at w.objects h)) other.0)))
+      ];
+    } in (
+      sound-objects w _ _ sound objects (sound-drop handle w.buffers sound.buffers),
       all-one _ (fits_drop (buffer_name handle) (omega (arith, small))),
-      follows-one g (command.Object (DropBuffer (buffer_name handle))) _ (rw there refl) refl refl (record { buffers = agrees-drop handle w.buffers g.buffers agrees.buffers }),
+      follows-one g (command.Object (DropBuffer (buffer_name handle))) _ (rw there refl) refl refl
+      (agrees-buffers w g _ _ agrees (agrees-drop handle w.buffers g.buffers agrees.buffers)),
     )
 
 -- deleteBuffer
@@ -248,8 +238,10 @@ some-if_bound : (change : Buffer → Buffer) (bound : Option ℕ) (s : BufferSta
 some-if_bound change None s h = refl
 some-if_bound change (Some handle) s h = some-changed change handle s h
 
-objects-bound : (change : Buffer → Buffer) (target : ℕ) (w : PageState) → AreSoundObjects w → AreSoundObjects (record w { buffers = changed_bound change target w.buffers })
-objects-bound change target w objects = record { count = objects.count; buffers = λ h. some-if_bound change (bound_to w.buffers.bound target) w.buffers h ∙ objects.buffers h }
+objects-bound : (change : Buffer → Buffer) (target : ℕ) (given : List Object) (s : BufferState) → AreSoundObjects given s
+    → AreSoundObjects given (changed_bound change target s)
+objects-bound change target given s objects =
+    record { count = objects.count; buffers = λ h. some-if_bound change (bound_to s.bound target) s h ∙ objects.buffers h }
 
 -- bindBuffer
 pub good-bind : (w : PageState) (g : DriverState) (target handle : ℕ) → IsSound w → Agrees w g → target < 2 ^ 32 → refusal_of (bind_row w target handle) ≡ None
@@ -259,15 +251,14 @@ good-bind w g target handle sound agrees word unrefused =
     let t = target-one target none.0 in
     let other : option_map_or (λ v. is_other t.one v.first_target) (view_at w.buffers handle) false ≡ false =
     subst (λ (o : Option BufferTarget). option_map_or (λ t. option_map_or (λ v. is_other t v.first_target) (view_at w.buffers handle) false) o false ≡ false) t.is none.1.1.0 in
+    let objects : AreSoundObjects w.objects (bind_buffer target handle w.buffers) =
+    record { count = sound.objects.count; buffers = λ h. some-changed (take_target (buffer_target_of target)) handle w.buffers h ∙ sound.objects.buffers h } in
     record {
-      sound = record {
-        objects = record { count = sound.objects.count; buffers = λ h. some-changed (take_target (buffer_target_of target)) handle w.buffers h ∙ sound.objects.buffers h };
-        buffers = sound-bind target handle t.one w.buffers t.is none.1.0 other sound.buffers;
-      };
+      sound = sound-objects w _ _ sound objects (sound-bind target handle t.one w.buffers t.is none.1.0 other sound.buffers);
       fit = all-one _ (fits_bind target (bound_name handle) word (bind-small w handle sound none.1.0));
       follows = follows-one g (command.Buffer (BindBuffer target (bound_name handle))) (bind_row w target handle).next
           (bind-refusals w g target handle sound agrees ∙ unrefused) refl refl
-          (record { buffers = agrees-bind target handle w.buffers g.buffers agrees.buffers (contents-null w sound) });
+          (agrees-buffers w g _ _ agrees (agrees-bind target handle w.buffers g.buffers agrees.buffers (contents-null w sound)));
     }
 
 -- the buffers after two changes of what is bound are those after one
@@ -350,10 +341,8 @@ zeros-none (b ∷ bytes) e = absurd (omega arith)
 -- the bound buffer was changed on both sides, and its objects and buffers are sound
 sound-filled : (w : PageState) (target usage : ℕ) (t : BufferTarget) (bytes : List ℕ) → buffer_target_of target ≡ Some t → length bytes ≤ 67108864 → IsSound w
     → IsSound (record w { buffers = fill_buffer target usage bytes w.buffers })
-sound-filled w target usage t bytes is small sound = record {
-  objects = objects-bound (take_data usage bytes) target w sound.objects;
-  buffers = sound-fill target usage t bytes w.buffers is small sound.buffers;
-}
+sound-filled w target usage t bytes is small sound =
+    sound-objects w _ _ sound (objects-bound (take_data usage bytes) target w.objects w.buffers sound.objects) (sound-fill target usage t bytes w.buffers is small sound.buffers)
 
 -- the driver takes the size of a bufferData that the page takes
 size-unrefused : (w : PageState) (g : DriverState) (target usage size : ℕ) → Agrees w g → not (is_some (buffer_target_of target)) ≡ false
@@ -378,7 +367,7 @@ good-size w g target usage size sound agrees word word' unrefused =
       fit = all-one _ (fits_size target usage (whole size) word word' (omega (arith, small)));
       follows = follows-one g (command.Buffer (BufferSize target usage (whole size))) (data_row w target usage (Size size)).next
           (size-unrefused w g target usage (whole size) agrees none.0 none.1.0 small none.1.1.1.0) refl refl
-          (record { buffers = agrees-bound (take_data usage zeros) target w.buffers g.buffers agrees.buffers });
+          (agrees-buffers w g _ _ agrees (agrees-bound (take_data usage zeros) target w.buffers g.buffers agrees.buffers));
     }
 
 -- bufferData with bytes, and what follows it
@@ -403,7 +392,7 @@ good-bytes w g target usage bytes sound agrees word word' short unrefused =
         sound = sound';
         fit = subst (λ (b : Bool). All Stream.Fits (sends b)) (sym empty.0) (all-one size fits_one);
         follows = subst (λ (b : Bool). Follows g (sends b) [] next) (sym empty.0) (follows-one g size next unrefused-size refl refl
-            (record { buffers = subst (λ (l : List ℕ). AgreesOnBuffers (fill_buffer target usage l w.buffers) (fill_buffer target usage zeros g.buffers)) (zeros-none bytes.now empty.1) sized }));
+            (agrees-buffers w g _ _ agrees (subst (λ (l : List ℕ). AgreesOnBuffers (fill_buffer target usage l w.buffers) (fill_buffer target usage zeros g.buffers)) (zeros-none bytes.now empty.1) sized)));
       }
       | inr some ↦
           let g1 : BufferState = fill_buffer target usage zeros g.buffers in
@@ -428,7 +417,7 @@ good-bytes w g target usage bytes sound agrees word word' short unrefused =
             fit = subst (λ (b : Bool). All Stream.Fits (sends b)) (sym some.0) (all-cons size (part ∷ []) fits_one (all-one part (fits_bytes target 0 bytes word (lit< tt) short)));
             follows = subst (λ (b : Bool). Follows g (sends b) [] next) (sym some.0) (follows-two g size part next unrefused-size refl refl
                 (passes (part_rules g1 target 0 bytes.now) (none.0, (bound2, (past2, tt)))) refl refl
-                (record { buffers = agrees-alike (patch_buffer target 0 bytes.now w1) (fill_buffer target usage bytes.now w.buffers) _ alike bound3 patched }));
+                (agrees-buffers w g _ _ agrees (agrees-alike (patch_buffer target 0 bytes.now w1) (fill_buffer target usage bytes.now w.buffers) _ alike bound3 patched)));
           }
     ]
 
@@ -467,10 +456,10 @@ good-sub_data w g target offset part sound agrees fits unrefused =
     let bound = bound_to w.buffers.bound target in
     let within = within-bound w.buffers target (whole offset + length part.now) none.1.1.1.0 in
     let small = bound-small w.buffers bound (whole offset + length part.now) (sound-bound w.buffers bound sound.buffers.each) within none.1.1.0 in
-    let sound' : IsSound (sub_data_row w target offset part).next = record {
-      objects = objects-bound (patch (whole offset) part.now) target w sound.objects;
-      buffers = sound-patch target t.one (whole offset) part.now w.buffers t.is (if-one (λ b. whole offset + length part.now ≤ length b.bytes) (option_and_then w.buffers.contents bound) within) sound.buffers;
-    } in
+    let sound' : IsSound (sub_data_row w target offset part).next =
+    sound-objects w w.objects (patch_buffer target (whole offset) part.now w.buffers) sound
+    (objects-bound (patch (whole offset) part.now) target w.objects w.buffers sound.objects)
+    (sound-patch target t.one (whole offset) part.now w.buffers t.is (if-one (λ b. whole offset + length part.now ≤ length b.bytes) (option_and_then w.buffers.contents bound) within) sound.buffers) in
     elim (eqb_tells (length part.now) 0) [
       | inl empty ↦ record {
         sound = sound';
@@ -478,11 +467,10 @@ good-sub_data w g target offset part sound agrees fits unrefused =
         follows = rw empty.0 (record {
           driver = g;
           replayed = replay-none g;
-          agrees = record {
-            buffers = agrees-alike w.buffers (patch_buffer target (whole offset) part.now w.buffers) g.buffers
-                (unchanged (patch (whole offset) part.now) (λ b. patch-none (whole offset) part.now b empty.1) bound w.buffers)
-                (bound-changed_bound (patch (whole offset) part.now) target w.buffers) agrees.buffers;
-          };
+          agrees = agrees-buffers w g (patch_buffer target (whole offset) part.now w.buffers) g.buffers agrees
+              (agrees-alike w.buffers (patch_buffer target (whole offset) part.now w.buffers) g.buffers
+              (unchanged (patch (whole offset) part.now) (λ b. patch-none (whole offset) part.now b empty.1) bound w.buffers)
+              (bound-changed_bound (patch (whole offset) part.now) target w.buffers) agrees.buffers);
         });
       }
       | inr some ↦
@@ -495,6 +483,6 @@ good-sub_data w g target offset part sound agrees fits unrefused =
             fit = rw some.0 (all-one _ (fits_bytes target (whole offset) part (part_words target offset part fits) (omega (arith, small)) (part_fit target offset part fits)));
             follows = rw some.0 (follows-one g (command.Buffer (BufferBytes target (whole offset) part)) (sub_data_row w target offset part).next
                 (passes (part_rules g.buffers target (whole offset) part.now) (none.0, (bound', (past', tt)))) refl refl
-                (record { buffers = agrees-bound (patch (whole offset) part.now) target w.buffers g.buffers agrees.buffers }));
+                (agrees-buffers w g _ _ agrees (agrees-bound (patch (whole offset) part.now) target w.buffers g.buffers agrees.buffers)));
           }
     ]

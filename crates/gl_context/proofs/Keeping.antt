@@ -2,8 +2,7 @@
 use Rattle.std.proofs.Common.{◌≡◌, ℕ, ◌+◌, ◌-◌, ◌≤◌, Bool, true, false, cond, not, Option, Some, None, IfSome, List, [], ◌∷◌, ◌++◌, length, refl, sym, ap, subst, ◌∙◌, arith, inl, inr, length-append}
 use Rattle.std.specs.Prelude.{is_some, if◌then◌else◌, ◌==◌, ◌&&◌, slice_get, slice_set}
 use Rattle.std.specs.Option.{option_map, option_and_then, option_map_or}
-use Rattle.std.specs.FinMap.{get, insert, remove, get-empty}
-use Rattle.std.specs.Ordering.{nat_cmp}
+use Rattle.std.specs.FinMap.{get, insert, remove}
 use Rattle.std.proofs.lemmas.Bool.Decides.{eqb_tells}
 use Rattle.std.proofs.lemmas.List.{length-set}
 use Rattle.gl_numbers.specs.BufferBindings.{Bindings, no_bindings, binding, bound_to, bind, unbind, non_zero}
@@ -17,15 +16,13 @@ use Rattle.gl_numbers.specs.declared.kinds.Kind.TheVariants as kind
 use Rattle.object_names.specs.Objects as Names
 use Rattle.buffer_store.specs.StoredBuffer.{StoredBuffer, new_stored}
 use Rattle.buffer_store.specs.StoredBuffer as Store
-use Rattle.buffer_store.specs.Stored.{Shelf, Stored, nothing_stored, changed, found}
+use Rattle.buffer_store.specs.Stored.{Shelf, Stored, changed, found}
 use Rattle.buffer_store.specs.Rules as store
 use Rattle.buffer_store.proofs.Shelf.{get-inserted, get-removed, get-changed_at}
-use Rattle.gl_model.specs.Errors.{no_errors}
 use Rattle.gl_model.specs.Buffers.{Buffer, new_buffer, view_of}
-use Rattle.gl_model.specs.BufferState.{BufferState, no_buffers, with_buffer, changed_buffer, changed_if_bound, changed_bound, make_buffer, drop_buffer, view_at, bound_view}
-use Rattle.gl_model.specs.PageState.{PageState, first_page, Object, new_object, mark, same_kind, is_live, was_given}
-use Rattle.gl_context.specs.Stands.{Kept, named, KeepsNames, stored_buffer, KeepsBuffers, Keeps}
-use Rattle.gl_context.specs.Tied.{names_live, AreTied}
+use Rattle.gl_model.specs.BufferState.{BufferState, with_buffer, changed_buffer, changed_if_bound, changed_bound, make_buffer, drop_buffer, view_at, bound_view}
+use Rattle.gl_model.specs.PageState.{Object, mark}
+use Rattle.gl_context.specs.Stands.{named, KeepsNames, stored_buffer, KeepsBuffers}
 
 -- the stored buffers are those of the page
 abbrev pub Stores : Shelf → (ℕ → Option Buffer) → Type 0
@@ -117,24 +114,26 @@ bound_view-stored stored s t target k is =
     rw is (ap (λ (b : Bindings). option_map Store.view_of (found stored.buffers (binding b t))) k.bound ∙ view-found stored s (binding s.bound t) k)
 
 -- an object that was marked, as it is named
-map-marked : (o : Option Object) → option_map Names.marked (option_map (named 0) o) ≡ option_map (named 0) (option_map mark o)
-map-marked None = refl
-map-marked (Some o) = refl
+map-marked : (held : ℕ) (o : Option Object) → option_map Names.marked (option_map (named held) o) ≡ option_map (named held) (option_map mark o)
+map-marked held None = refl
+map-marked held (Some o) = refl
 
--- the names after one more object was made
-pub names-made : (names : Names.Given) (w : PageState) (o : Object) (room : Option Kind) → KeepsNames names w
-    → KeepsNames (record { objects = names.objects ++ named 0 o ∷ []; room = room }) (record w { objects = w.objects ++ o ∷ [] })
-names-made names w o room k =
+-- the names after one more object was made, which nothing holds
+pub names-made : (names : Names.Given) (objects : List Object) (held : ℕ → ℕ) (o : Object) (room : Option Kind) → KeepsNames names objects held
+    → held (length objects + 1) ≡ 0 → KeepsNames (record { objects = names.objects ++ named 0 o ∷ []; room = room }) (objects ++ o ∷ []) held
+names-made names objects held o room k free =
     let count = k.count in
     record {
-      count = omega (arith, count, length-append names.objects (named 0 o ∷ []), length-append w.objects (o ∷ []));
+      count = omega (arith, count, length-append names.objects (named 0 o ∷ []), length-append objects (o ∷ []));
       each = λ h. object_at-made names.objects (named 0 o) h ∙ elim (eqb_tells h (length names.objects + 1)) [
         | inl same ↦
-            let here : (h == length w.objects + 1) ≡ true = ap (λ n. h == n + 1) (sym count) ∙ same.0 in
-            rw same.0 (sym (ap (option_map (named 0)) (object_at-made w.objects o h ∙ ap (λ b. cond b (Some o) (object_at w.objects h)) here)))
+            let here : (h == length objects + 1) ≡ true = ap (λ n. h == n + 1) (sym count) ∙ same.0 in
+            let none : held h ≡ 0 = ap held (same.1 ∙ ap (λ n. n + 1) count) ∙ free in
+            rw same.0 (sym (ap (option_map (named (held h))) (object_at-made objects o h ∙ ap (λ b. cond b (Some o) (object_at objects h)) here)
+                ∙ ap (λ n. Some (named n o)) none))
         | inr other ↦
-            let elsewhere : (h == length w.objects + 1) ≡ false = ap (λ n. h == n + 1) (sym count) ∙ other.0 in
-            rw other.0 (k.each h ∙ sym (ap (option_map (named 0)) (object_at-made w.objects o h ∙ ap (λ b. cond b (Some o) (object_at w.objects h)) elsewhere)))
+            let elsewhere : (h == length objects + 1) ≡ false = ap (λ n. h == n + 1) (sym count) ∙ other.0 in
+            rw other.0 (k.each h ∙ sym (ap (option_map (named (held h))) (object_at-made objects o h ∙ ap (λ b. cond b (Some o) (object_at objects h)) elsewhere)))
       ];
     }
 
@@ -147,35 +146,15 @@ pub length-changed : {A : Type 0} (objects : List A) (h : ℕ) (f : A → A) →
 length-changed objects h f = length-changed_at objects h f (object_at objects h)
 
 -- the names after one was marked
-pub names-marked : (names : Names.Given) (w : PageState) (handle : ℕ) (room : Option Kind) → KeepsNames names w
-    → KeepsNames (record { objects = changed_object names.objects handle Names.marked; room = room }) (record w { objects = changed_object w.objects handle mark })
-names-marked names w handle room k = record {
-  count = length-changed names.objects handle Names.marked ∙ k.count ∙ sym (length-changed w.objects handle mark);
+pub names-marked : (names : Names.Given) (objects : List Object) (held : ℕ → ℕ) (handle : ℕ) (room : Option Kind) → KeepsNames names objects held
+    → KeepsNames (record { objects = changed_object names.objects handle Names.marked; room = room }) (changed_object objects handle mark) held
+names-marked names objects held handle room k = record {
+  count = length-changed names.objects handle Names.marked ∙ k.count ∙ sym (length-changed objects handle mark);
   each = λ h. object_at-changed names.objects handle Names.marked h ∙ elim (eqb_tells h handle) [
-    | inl same ↦ rw same.0 (ap (option_map Names.marked) (k.each handle) ∙ map-marked (object_at w.objects handle)
-        ∙ sym (ap (option_map (named 0)) (object_at-changed w.objects handle mark h ∙ ap (λ b. cond b (option_map mark (object_at w.objects handle)) (object_at w.objects h)) same.0)))
+    | inl same ↦ rw same.0 (ap (option_map Names.marked) (k.each handle) ∙ map-marked (held handle) (object_at objects handle)
+        ∙ ap (λ n. option_map (named (held n)) (option_map mark (object_at objects handle))) (sym same.1)
+        ∙ sym (ap (option_map (named (held h))) (object_at-changed objects handle mark h ∙ ap (λ b. cond b (option_map mark (object_at objects handle)) (object_at objects h)) same.0)))
     | inr other ↦ rw other.0 (k.each h
-        ∙ sym (ap (option_map (named 0)) (object_at-changed w.objects handle mark h ∙ ap (λ b. cond b (option_map mark (object_at w.objects handle)) (object_at w.objects h)) other.0)))
+        ∙ sym (ap (option_map (named (held h))) (object_at-changed objects handle mark h ∙ ap (λ b. cond b (option_map mark (object_at objects handle)) (object_at objects h)) other.0)))
   ];
 }
-
--- what is kept at the start
-pub keeps-first : (failed : Bool) → Keeps (record { names = Names.no_names; buffers = nothing_stored; errors = no_errors; failed = failed }) first_page
-keeps-first failed = record {
-  names = record {
-    count = refl;
-    each = λ h. elim (eqb_tells h 0) [ inl null ↦ rw null.0 refl | inr given ↦ rw given.0 refl ];
-  };
-  buffers = record { each = λ h. get-empty nat_cmp h; bound = refl };
-  errors = refl;
-}
-
--- whether a handle is live, by what is named
-live-map : (o : Option Object) → option_map_or (λ o. same_kind kind.Buffer o.kind && not o.marked) (option_map (named 0) o) false
-    ≡ option_map_or (λ o. same_kind kind.Buffer o.kind && not o.marked) o false
-live-map None = refl
-live-map (Some o) = refl
-
-pub live-named : (names : Names.Given) (w : PageState) (handle : ℕ) → KeepsNames names w → names_live names.objects kind.Buffer handle ≡ is_live w kind.Buffer handle
-live-named names w handle k =
-    ap (λ (o : Option Names.Object). option_map_or (λ o. same_kind kind.Buffer o.kind && not o.marked) o false) (k.each handle) ∙ live-map (object_at w.objects handle)

@@ -1,3 +1,4 @@
+pub mod Parts
 pub mod Agreeing
 pub mod Sounding
 pub mod SentBytes

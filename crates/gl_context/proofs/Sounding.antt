@@ -1,4 +1,4 @@
--- Every page's state is sound: it is at the start, and each row that acts leaves it so.
+-- The buffers stay sound at each change of them.
 use Rattle.std.proofs.Common.{◌≡◌, ℕ, ◌+◌, ◌-◌, ◌≤◌, ◌<◌, Bool, true, false, cond, not, Option, Some, None, IsSome, IfSome, List, [], ◌∷◌, ◌++◌, length, take, drop, refl, sym, ap, subst, ◌∙◌, arith, inl, inr, length-append}
 use Rattle.std.specs.Prelude.{nat_eq, is_some, if◌then◌else◌, ◌==◌, ◌&&◌, slice_set}
 use Rattle.std.specs.Option.{option_map, option_and_then, option_map_or, option_or}
@@ -15,26 +15,9 @@ use Rattle.gl_numbers.specs.declared.buffer_words.BufferTarget.TheVariants.{Arra
 use Rattle.gl_numbers.specs.declared.kinds.Kind as Kinds
 use Rattle.gl_numbers.specs.declared.kinds.Kind.TheVariants as kind
 use Rattle.gl_model.specs.Buffers.{Buffer, new_buffer, view_of, take_target, take_data, patch}
-use Rattle.gl_model.specs.BufferState.{BufferState, no_buffers, with_buffer, changed_buffer, changed_if_bound, changed_bound, make_buffer, drop_buffer, bind_buffer, fill_buffer, patch_buffer, view_at, bound_view}
+use Rattle.gl_model.specs.BufferState.{BufferState, with_buffer, changed_buffer, changed_if_bound, changed_bound, make_buffer, drop_buffer, bind_buffer, fill_buffer, patch_buffer, view_at, bound_view}
 use Rattle.gl_model.specs.PageState.{PageState, first_page, Object, new_object, mark, same_kind, is_live}
-use Rattle.gl_context.specs.Stands.{IsSoundBuffer, IsBoundTo, AreSoundBuffers, AreSoundObjects, IsSound}
-
--- no buffer is sound
-pub sound-none : AreSoundBuffers no_buffers
-sound-none = record {
-  each = λ number. tt;
-  bound = λ target. elim target as (λ t. IsBoundTo no_buffers t (binding no_buffers.bound t)) [ Array ↦ tt | ElementArray ↦ tt ];
-}
-
--- the page's state at the start
-pub sound-first : IsSound first_page
-sound-first = record {
-  objects = record {
-    count = omega arith;
-    buffers = λ handle. elim (eqb_tells handle 0) [ inl null ↦ rw null.0 refl | inr given ↦ rw given.0 refl ];
-  };
-  buffers = sound-none;
-}
+use Rattle.gl_context.specs.Stands.{IsSoundBuffer, IsBoundTo, AreSoundBuffers}
 
 -- a buffer that was changed is sound
 sound-one : (change : Buffer → Buffer) (b : Option Buffer) → ((one : Buffer) → b ≡ Some one → IsSoundBuffer one → IsSoundBuffer (change one))

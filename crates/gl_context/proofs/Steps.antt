@@ -24,7 +24,7 @@ use Rattle.call_records.specs.declared.replies.Value.TheVariants.{Nothing}
 use Rattle.call_records.specs.declared.replies.Reply.{Reply}
 use Rattle.command_stream.specs.declared.command.Command.{Command}
 use Rattle.command_stream.specs.Commands as Stream
-use Rattle.gl_model.specs.Errors.{ErrorSet, raise, smallest, clear_one}
+use Rattle.gl_model.specs.Errors.{raise}
 use Rattle.gl_model.specs.PageState.{PageState}
 use Rattle.gl_model.specs.DriverState.{DriverState}
 use Rattle.gl_model.proofs.Replaying.{replay-none}
@@ -40,28 +40,25 @@ use Rattle.gl_context.specs.Stands.{Kept, Keeps, IsSound, Agrees, Stands}
 use Rattle.gl_context.specs.Steps.{bytes_of, Steps, Stops}
 use Rattle.gl_context.specs.declared.context.WriteFault.{WriteFault}
 use Rattle.gl_context.proofs.SentBytes.{nothing_sent, bind_words}
-use Rattle.gl_context.proofs.Following.{good-asking, good-create, good-delete, good-bind, good-data, good-sub_data, sound-errors, agrees-errors}
+use Rattle.gl_context.proofs.Following.{good-quiet, good-create, good-delete, good-bind, good-data, good-sub_data}
+use Rattle.gl_context.proofs.Parts.{keeps-errors}
 
 -- each call on objects that acts is good
 good-object : (w : PageState) (g : DriverState) (c : ObjectCall) → IsSound w → Agrees w g → refusal_of (object_row w c) ≡ None → IsGood g (object_row w c)
 good-object w g (Create new.Buffer) sound agrees unrefused = good-create w g sound agrees unrefused
 good-object w g (Delete kind handle) sound agrees unrefused = good-delete w g kind handle sound agrees
-good-object w g (IsKind kind handle) sound agrees unrefused = good-asking w g (object_row w (IsKind kind handle)) sound agrees refl refl refl
+good-object w g (IsKind kind handle) sound agrees unrefused = good-quiet g (object_row w (IsKind kind handle)) sound agrees refl refl
 
 -- each call on buffers that acts is good
 good-buffer : (w : PageState) (g : DriverState) (c : BufferCall) → IsSound w → Agrees w g → Fits (call.Buffer c) → refusal_of (buffer_row w c) ≡ None → IsGood g (buffer_row w c)
 good-buffer w g (BindBuffer target handle) sound agrees fits unrefused = good-bind w g target handle sound agrees (bind_words target handle fits) unrefused
 good-buffer w g (BufferData target usage fill) sound agrees fits unrefused = good-data w g target usage fill sound agrees fits unrefused
 good-buffer w g (BufferSubData target offset bytes) sound agrees fits unrefused = good-sub_data w g target offset bytes sound agrees fits unrefused
-good-buffer w g (GetBufferParameter target name) sound agrees fits unrefused = good-asking w g (buffer_row w (GetBufferParameter target name)) sound agrees refl refl refl
+good-buffer w g (GetBufferParameter target name) sound agrees fits unrefused = good-quiet g (buffer_row w (GetBufferParameter target name)) sound agrees refl refl
 
 -- each query is good
 good-query : (w : PageState) (g : DriverState) (c : QueryCall) → IsSound w → Agrees w g → IsGood g (query_row w c)
-good-query w g GetError sound agrees = record {
-  sound = sound-errors w (clear_one (smallest w.errors) w.errors) sound;
-  fit = All-nil Stream.Fits;
-  follows = record { driver = g; replayed = replay-none g; agrees = agrees-errors w g (clear_one (smallest w.errors) w.errors) agrees };
-}
+good-query w g GetError sound agrees = good-quiet g (query_row w GetError) sound agrees refl refl
 
 -- each call that acts is good
 pub good-call : (w : PageState) (g : DriverState) (c : Call) → IsSound w → Agrees w g → Fits c → refusal_of (row_of w c) ≡ None → IsGood g (row_of w c)
@@ -76,15 +73,6 @@ other-code rules Value e = refl
 other-code rules Operation e = refl
 other-code rules Memory e = absurd (never_memory rules e)
 other-code rules Framebuffer e = refl
-
--- what is kept stands after an error joined the flags
-keeps-raised : (kept : Kept) (w : PageState) (error : GlError) → Keeps kept w
-    → Keeps (record kept { errors = raise error kept.errors }) (record w { errors = raise error w.errors })
-keeps-raised kept w error k = record {
-  names = record { count = k.names.count; each = k.names.each };
-  buffers = k.buffers;
-  errors = ap (raise error) k.errors;
-}
 
 -- a call that raised an error, as a step
 steps-raised : (w : PageState) (g : DriverState) (c : Call) (kept : Kept) (old : Option (List ℕ)) (error : GlError) (out_of_memory : Bool) → Stands kept w g
@@ -103,9 +91,9 @@ steps-raised w g c kept old error out_of_memory s code allowed stepped =
       replayed = rw same (replay-none g);
       stands = rw same (record {
         working = s.working;
-        keeps = keeps-raised kept w error s.keeps;
-        sound = sound-errors w (raise error w.errors) s.sound;
-        agrees = agrees-errors w g (raise error w.errors) s.agrees;
+        keeps = keeps-errors kept w (raise error kept.errors) (raise error w.errors) s.keeps (ap (raise error) s.keeps.errors);
+        sound = s.sound;
+        agrees = s.agrees;
       });
       exact = sym (ap (λ (r : Stepped). r.sends) same);
     }

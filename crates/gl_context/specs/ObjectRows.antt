@@ -17,7 +17,7 @@ use Rattle.command_stream.specs.declared.object_commands.ObjectCommand.TheVarian
 use Rattle.gl_model.specs.BufferState.{make_buffer, drop_buffer}
 use Rattle.gl_model.specs.PageState.{PageState, new_object, mark, was_given, is_live}
 use Rattle.object_names.specs.Objects.{driver_name}
-use Rattle.gl_context.specs.Row.{Row, asking, acting}
+use Rattle.gl_context.specs.Row.{Row, asking, acting, number_of_truth}
 
 -- the kind of objects that a call speaks of
 abbrev pub kind_of : ObjectKind → Kinds.Kind
@@ -60,10 +60,6 @@ delete_row w kind handle = acting
     (never_given handle (was_given w (kind_of kind) handle) ∷ [])
     (if is_live w (kind_of kind) handle then deleted kind handle (record w { objects = changed w.objects handle mark }) else w)
     (if is_live w (kind_of kind) handle then drops kind handle else [])
-
--- 1 for what is so, 0 for what isn't
-abbrev pub number_of_truth : Bool → ℕ
-number_of_truth truth = if truth then 1 else 0
 
 -- isBuffer and its kin: whether the handle names an object of the kind that wasn't deleted
 abbrev pub is_kind_row : PageState → ObjectKind → ℕ → Row

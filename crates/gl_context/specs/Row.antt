@@ -1,6 +1,6 @@
 -- What one call does: a row. The page's step is the same for every row: the first rule that applies refuses the call; else it
 -- may run out of memory; else it acts.
-use Rattle.std.specs.Prelude.{ℕ, Bool, true, false, Option, Some, None, List, []}
+use Rattle.std.specs.Prelude.{ℕ, Bool, true, false, Option, Some, None, List, [], if◌then◌else◌}
 use Rattle.gl_numbers.specs.Errors.{code_of, no_error}
 use Rattle.gl_numbers.specs.Refusals.{Rule, first_refusal}
 use Rattle.gl_numbers.specs.declared.errors.GlError.{GlError}
@@ -29,6 +29,10 @@ asking w rules value = record { rules = rules; may_run_out = false; next = w; va
 -- a call that acts and returns nothing, and takes no memory
 abbrev pub acting : List Rule → PageState → List Command → Row
 acting rules next commands = record { rules = rules; may_run_out = false; next = next; value = Nothing; commands = commands; made = None }
+
+-- 1 for what is so, 0 for what isn't
+abbrev pub number_of_truth : Bool → ℕ
+number_of_truth truth = if truth then 1 else 0
 
 -- why the call is refused, if it is
 abbrev pub refusal_of : Row → Option GlError

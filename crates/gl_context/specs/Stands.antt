@@ -15,7 +15,7 @@ use Rattle.buffer_store.specs.Stored.{Stored}
 use Rattle.gl_model.specs.Errors.{ErrorSet}
 use Rattle.gl_model.specs.Buffers.{Buffer}
 use Rattle.gl_model.specs.BufferState.{BufferState}
-use Rattle.gl_model.specs.PageState.{PageState, Object, holders, is_live}
+use Rattle.gl_model.specs.PageState.{PageState, Object, holders, lives}
 use Rattle.gl_model.specs.DriverState.{DriverState}
 
 -- what a context keeps: the names, the buffers with what is bound, the error flags, and whether a write failed
@@ -29,10 +29,10 @@ pub record Kept : Type 0 where
 abbrev pub named : ℕ → Object → Names.Object
 named held o = record { kind = o.kind; marked = o.marked; holds = held }
 
--- the names are those of the page's objects
-pub record KeepsNames (names : Names.Given) (w : PageState) : Type 0 where
-  pub count : length names.objects ≡ length w.objects
-  pub each : (handle : ℕ) → object_at names.objects handle ≡ option_map (named (holders w handle)) (object_at w.objects handle)
+-- the names are those of the page's objects, each with its holders
+pub record KeepsNames (names : Names.Given) (objects : List Object) (held : ℕ → ℕ) : Type 0 where
+  pub count : length names.objects ≡ length objects
+  pub each : (handle : ℕ) → object_at names.objects handle ≡ option_map (named (held handle)) (object_at objects handle)
 
 -- of a buffer's bytes those of indices are kept
 abbrev pub kept_bytes : Option BufferTarget → List ℕ → List ℕ
@@ -52,7 +52,7 @@ pub record KeepsBuffers (stored : Stored) (s : BufferState) : Type 0 where
 
 -- what is kept is that part of the page's state
 pub record Keeps (kept : Kept) (w : PageState) : Type 0 where
-  pub names : KeepsNames kept.names w
+  pub names : KeepsNames kept.names w.objects (holders w)
   pub buffers : KeepsBuffers kept.buffers w.buffers
   pub errors : kept.errors ≡ w.errors
 
@@ -71,14 +71,18 @@ pub record AreSoundBuffers (s : BufferState) : Type 0 where
   pub bound : (target : BufferTarget) → IsBoundTo s target (binding s.bound target)
 
 -- what all objects keep true: no more handles than are given, and a buffer for each object that is one and is there
-pub record AreSoundObjects (w : PageState) : Type 0 where
-  pub count : length w.objects ≤ handles_max
-  pub buffers : (handle : ℕ) → is_some (w.buffers.contents handle) ≡ is_live w kind.Buffer handle
+pub record AreSoundObjects (given : List Object) (s : BufferState) : Type 0 where
+  pub count : length given ≤ handles_max
+  pub buffers : (handle : ℕ) → is_some (s.contents handle) ≡ lives given kind.Buffer handle
+
+-- what the parts of a page's state keep true: the objects that were given handles, and the buffers
+pub record AreSound (given : List Object) (s : BufferState) : Type 0 where
+  pub objects : AreSoundObjects given s
+  pub buffers : AreSoundBuffers s
 
 -- what every page's state keeps true
-pub record IsSound (w : PageState) : Type 0 where
-  pub objects : AreSoundObjects w
-  pub buffers : AreSoundBuffers w.buffers
+abbrev pub IsSound : PageState → Type 0
+IsSound w = AreSound w.objects w.buffers
 
 -- the driver's name of a buffer
 abbrev pub buffer_name : ℕ → ℕ
@@ -91,9 +95,13 @@ pub record AgreesOnBuffers (page driver : BufferState) : Type 0 where
   pub array : driver.bound.array ≡ option_map buffer_name page.bound.array
   pub element_array : driver.bound.element_array ≡ option_map buffer_name page.bound.element_array
 
+-- the parts of the driver's state are those of the page's: the buffers
+pub record PartsAgree (page driver : BufferState) : Type 0 where
+  pub buffers : AgreesOnBuffers page driver
+
 -- the driver's state is the page's
-pub record Agrees (w : PageState) (g : DriverState) : Type 0 where
-  pub buffers : AgreesOnBuffers w.buffers g.buffers
+abbrev pub Agrees : PageState → DriverState → Type 0
+Agrees w g = PartsAgree w.buffers g.buffers
 
 -- what is kept stands for the page's state, and the driver's state agrees with it
 pub record Stands (kept : Kept) (w : PageState) (g : DriverState) : Type 0 where

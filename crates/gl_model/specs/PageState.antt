@@ -63,9 +63,13 @@ is_held w handle = option_map_or (is_there (holders w handle)) (object_at w.obje
 abbrev pub was_given : PageState → Kinds.Kind → ℕ → Bool
 was_given w kind handle = option_map_or (λ o. same_kind kind o.kind) (object_at w.objects handle) false
 
+-- whether a handle names one of these objects that is of a kind and wasn't deleted
+abbrev pub lives : List Object → Kinds.Kind → ℕ → Bool
+lives objects kind handle = option_map_or (λ o. same_kind kind o.kind && not o.marked) (object_at objects handle) false
+
 -- whether a handle names an object of a kind that wasn't deleted (WebGL 1.0 section 5.14.5, isBuffer and its kin)
 abbrev pub is_live : PageState → Kinds.Kind → ℕ → Bool
-is_live w kind handle = option_map_or (λ o. same_kind kind o.kind && not o.marked) (object_at w.objects handle) false
+is_live w kind handle = lives w.objects kind handle
 
 -- a shader or program that is marked stays an argument while it is there; any other object that is marked is none
 abbrev pub stays_argument : Kinds.Kind → Bool

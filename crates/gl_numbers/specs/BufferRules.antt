@@ -61,7 +61,8 @@ no_such_buffer number there = when (not (number == 0) && not there) invalid_oper
 
 -- the buffer was first bound to the other target (WebGL 1.0 section 6.1)
 abbrev pub other_target : Option BufferTarget → Option BufferView → Rule
-other_target target buffer = when (option_map_or (λ t. option_map_or (λ b. is_other t b.first_target) buffer false) target false) invalid_operation
+other_target target buffer =
+    when (option_map_or (λ t. option_map_or (λ b. is_other t b.first_target) buffer false) target false) invalid_operation
 
 -- no buffer is bound to the target (OpenGL ES 2.0 section 2.9)
 abbrev pub nothing_bound : Option BufferView → Rule

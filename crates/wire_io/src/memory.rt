@@ -93,7 +93,13 @@ impl Model for MemSink {
 
     ghost use Rattle.std.specs.Prelude.{◌≤◌, take, vec_len};
 
-    ghost view = { λ s. record { held = take s.len s.room.items; room = vec_len s.room; fail = s.fail.items; calls = s.calls; faults = s.faults } };
+    ghost view = { λ s. record {
+      held = take s.len s.room.items;
+      room = vec_len s.room;
+      fail = s.fail.items;
+      calls = s.calls;
+      faults = s.faults;
+    } };
 
     ghost invariant = { λ s. s.len ≤ vec_len s.room };
 }
@@ -150,7 +156,8 @@ impl Sink for MemSink {
     fn write(&mut self, bytes: &[u8]) -> Result<usize, Failed>
         ensures bytes { Writes (Some self.old.held) (Some self.new.held) result bytes.now }
         ensures cause { HasCause self.old.faults self.new.faults result }
-        ensures failing { IsErr result ↔ (Contains self.old.fail self.old.calls ⊎ (0 < length bytes.now) × (length self.old.held ≡ self.old.room)) }
+        ensures failing { IsErr result
+            ↔ (Contains self.old.fail self.old.calls ⊎ (0 < length bytes.now) × (length self.old.held ≡ self.old.room)) }
         ensures most { IfOk result (λ n. n ≡ min (length bytes.now) (self.old.room - length self.old.held)) }
         ensures stays { (self.new.fail ≡ self.old.fail) × (self.new.room ≡ self.old.room) }
         ensures called { self.new.calls ≡ min (self.old.calls + 1) (2 ^ 64 - 1) }

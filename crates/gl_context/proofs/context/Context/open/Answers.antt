@@ -1,6 +1,4 @@
 -- A context at the start stands for the first states.
-use Rattle.gl_context.proofs.Keeping.{keeps-first}
-use Rattle.gl_context.proofs.Sounding.{sound-first}
 use Rattle.gl_context.proofs.Tying.{tied-first}
 use Rattle.gl_context.proofs.First.{stands-first}
 use Rattle.gl_context.proofs.context.Context.open.Goals as goal
