@@ -1,7 +1,7 @@
 -- How long encodings are.
 use Rattle.std.proofs.Common.{◌≡◌, ℕ, ◌+◌, ◌<◌, ◌≤◌, ◌^◌, List, [], ◌++◌, length, length-append, arith, refl, sym, ap, ◌∙◌}
 use Rattle.gl_numbers.specs.Bytes.{le32}
-use Rattle.gl_numbers.specs.Fields.{fields_size, values_size, body_encoding}
+use Rattle.gl_numbers.specs.Fields.{fields_size, body_encoding}
 use Rattle.gl_numbers.proofs.Bytes.{length-le32, length-le64}
 use Rattle.gl_numbers.proofs.Bodies.{length-body, values_size-fits, body-tail}
 use Rattle.gl_numbers.proofs.OneRecord.{length-record}

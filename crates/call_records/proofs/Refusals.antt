@@ -1,5 +1,5 @@
 -- From the parts of the reader to its answers.
-use Rattle.std.proofs.Common.{◌≡◌, ℕ, ◌+◌, ◌<◌, ◌^◌, List, ◌++◌, length, Option, Result, Ok, Err, IfOk, IfErr, inl, inr, refl, sym, arith, append_assoc, length-append, lit<}
+use Rattle.std.proofs.Common.{◌≡◌, ℕ, ◌+◌, ◌<◌, ◌^◌, List, ◌++◌, length, Option, Result, Ok, Err, IfOk, IfErr, inl, inr, refl, sym, arith, append_assoc, length-append}
 use Rattle.std.specs.Io.KnownBytes.{prepend_known}
 use Rattle.gl_numbers.specs.Bytes.{le32}
 use Rattle.gl_numbers.proofs.Bytes.{length-le32}

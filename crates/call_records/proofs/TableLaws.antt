@@ -1,6 +1,6 @@
 -- Laws of the record table. What is so of each row is computed, an operation and then the others of its subject; the rest
 -- follows for all rows.
-use Rattle.std.proofs.Common.{◌≡◌, ℕ, ◌<◌, ◌^◌, Option, Some, None, true, false, refl, sym, ap, ◌∙◌, lit<}
+use Rattle.std.proofs.Common.{◌≡◌, ℕ, ◌<◌, ◌^◌, Some, None, true, false, refl, sym, ap, ◌∙◌, lit<}
 use Rattle.std.specs.Prelude.{◌==◌}
 use Rattle.std.proofs.lemmas.Bool.{ne_eqb}
 use Rattle.gl_numbers.specs.Fields.{allows}

@@ -1,15 +1,15 @@
 -- What a call did to the stores is what its row says: nothing refused it, and what is kept stands for the row's next state.
-use Rattle.std.proofs.Common.{◌≡◌, ℕ, ℤ, pos, negsuc, ◌+◌, ◌≤◌, ◌<◌, Bool, true, false, not, Option, Some, None, IfSome, List, [], ◌∷◌, ◌++◌, length, replicate, refl, sym, ap, subst, ◌∙◌, arith, inl, inr}
-use Rattle.std.specs.Prelude.{nat_eq, nat_lt, nat_le, is_some, if◌then◌else◌, ◌==◌, ◌&&◌, ◌||◌}
+use Rattle.std.proofs.Common.{◌≡◌, ℕ, ℤ, ◌+◌, ◌≤◌, true, false, not, Option, Some, None, IfSome, List, [], ◌∷◌, ◌++◌, length, refl, sym, ap, subst, ◌∙◌, arith, inl, inr}
+use Rattle.std.specs.Prelude.{nat_lt, is_some}
 use Rattle.std.specs.Option.{option_map, option_and_then, option_map_or}
 use Rattle.std.specs.Borrow.{Bor}
-use Rattle.std.specs.FinMap.{get, insert}
-use Rattle.std.proofs.lemmas.Bool.{ltb-false, le-ltb, or_parts}
+use Rattle.std.specs.FinMap.{insert}
+use Rattle.std.proofs.lemmas.Bool.{ltb-false}
 use Rattle.std.proofs.lemmas.Bool.Decides.{eqb_tells, leb_tells}
 use Rattle.std.proofs.lemmas.List.{length-replicate}
 use Rattle.gl_numbers.specs.BufferBindings.{Bindings, binding, bound_to, bind, unbind, non_zero}
 use Rattle.gl_numbers.specs.ByHandle.{changed as changed_object}
-use Rattle.gl_numbers.specs.BufferRules.{BufferView, is_other, is_negative, whole, no_such_buffer, bad_signed_size}
+use Rattle.gl_numbers.specs.BufferRules.{BufferView, is_other, is_negative, whole, no_such_buffer}
 use Rattle.gl_numbers.specs.BufferWords.{buffer_target_of, usage_of}
 use Rattle.gl_numbers.specs.Refusals.{first_refusal}
 use Rattle.gl_numbers.proofs.Refusing.{passes, passed}
@@ -21,21 +21,20 @@ use Rattle.gl_numbers.specs.declared.kinds.Kind.TheVariants as kind
 use Rattle.object_names.specs.Objects as Names
 use Rattle.buffer_store.specs.declared.content.Content as Contents
 use Rattle.buffer_store.specs.Content.{size_of, bytes_of, buffer_of}
-use Rattle.buffer_store.specs.StoredBuffer.{StoredBuffer, new_stored, with_first, with_bytes}
-use Rattle.buffer_store.specs.StoredBuffer as Store
-use Rattle.buffer_store.specs.Stored.{Shelf, Stored, changed, found}
+use Rattle.buffer_store.specs.StoredBuffer.{new_stored, with_first, with_bytes}
+use Rattle.buffer_store.specs.Stored.{Shelf, Stored, changed}
 use Rattle.buffer_store.specs.Rules as store
 use Rattle.call_records.specs.declared.buffer_calls.Fill.{Fill}
 use Rattle.call_records.specs.declared.buffer_calls.Fill.TheVariants.{Size, Bytes}
-use Rattle.gl_model.specs.Buffers.{Buffer, new_buffer, view_of, take_target, take_data, patch}
-use Rattle.gl_model.specs.BufferState.{BufferState, changed_buffer, changed_if_bound, changed_bound, make_buffer, drop_buffer, bind_buffer, fill_buffer, patch_buffer, view_at, bound_view}
+use Rattle.gl_model.specs.Buffers.{Buffer, view_of, take_target, take_data, patch}
+use Rattle.gl_model.specs.BufferState.{BufferState, changed_buffer, make_buffer, drop_buffer, fill_buffer, patch_buffer, view_at, bound_view}
 use Rattle.gl_model.specs.PageState.{PageState, is_live, new_object, holders}
 use Rattle.gl_context.specs.Row.{refusal_of}
 use Rattle.gl_context.specs.ObjectRows.{create_row, delete_row, next_handle}
 use Rattle.call_records.specs.declared.object_calls.ObjectKind.TheVariants as object
 use Rattle.gl_context.specs.BufferRows.{bind_row, data_row, sub_data_row, fill_rules, content_of}
 use Rattle.gl_context.specs.Filled.{Fills}
-use Rattle.gl_context.specs.Stands.{Kept, Keeps, KeepsBuffers, kept_bytes, stored_buffer, IsSoundBuffer, AreSoundBuffers, IsSound}
+use Rattle.gl_context.specs.Stands.{Kept, Keeps, KeepsBuffers, stored_buffer, IsSoundBuffer, AreSoundBuffers, IsSound}
 use Rattle.gl_context.proofs.Keeping.{Stores, stores-make, stores-drop, stores-changed, stores-same, stores-if_bound, stores-same_bound, bound-changed_bound, view-stored, bound_view-stored, names-made, names-marked}
 use Rattle.gl_context.proofs.Parts.{keeps-buffers, keeps-objects}
 use Rattle.gl_context.proofs.Sounding.{first-some, length-patch}

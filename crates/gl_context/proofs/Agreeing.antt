@@ -1,11 +1,10 @@
 -- The driver's buffers agree with the page's after the same change of both.
-use Rattle.std.proofs.Common.{◌≡◌, ℕ, ◌+◌, ◌<◌, true, false, Option, Some, None, refl, sym, ap, ◌∙◌, arith, inl, inr, lit<}
-use Rattle.std.specs.Prelude.{nat_eq, is_some, if◌then◌else◌, ◌==◌}
+use Rattle.std.proofs.Common.{◌≡◌, ℕ, ◌<◌, true, false, Option, Some, None, refl, sym, ap, ◌∙◌, arith, inl, inr, lit<}
+use Rattle.std.specs.Prelude.{nat_eq}
 use Rattle.std.specs.Option.{option_map, option_and_then}
 use Rattle.std.proofs.lemmas.Bool.{ne_eqb}
 use Rattle.std.proofs.lemmas.Bool.Decides.{eqb_tells}
-use Rattle.gl_numbers.specs.BufferBindings.{Bindings, binding, bound_to, bind, unbind, without, non_zero}
-use Rattle.gl_numbers.specs.BufferRules.{BufferView}
+use Rattle.gl_numbers.specs.BufferBindings.{Bindings, binding, bound_to, bind, without, non_zero}
 use Rattle.gl_numbers.specs.BufferWords.{buffer_target_of}
 use Rattle.gl_numbers.specs.declared.buffer_words.BufferTarget.{BufferTarget}
 use Rattle.gl_numbers.specs.declared.buffer_words.BufferTarget.TheVariants.{Array, ElementArray}

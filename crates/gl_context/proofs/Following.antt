@@ -1,6 +1,6 @@
 -- The driver follows each row that acts, the page stays sound, and the commands fit.
-use Rattle.std.proofs.Common.{◌≡◌, ℕ, ℤ, zero, suc, pos, negsuc, cond, ◌+◌, ◌-◌, ◌≤◌, ◌<◌, ◌^◌, Bool, true, false, not, Option, Some, None, IsSome, IfSome, List, [], ◌∷◌, ◌++◌, length, take, drop, replicate, refl, sym, ap, subst, ◌∙◌, arith, inl, inr, lit<, append-nil, length-append}
-use Rattle.std.specs.Prelude.{nat_eq, nat_lt, is_some, if◌then◌else◌, ◌==◌, ◌&&◌, ◌||◌, All, slice_get}
+use Rattle.std.proofs.Common.{◌≡◌, ℕ, ℤ, zero, suc, cond, ◌+◌, ◌-◌, ◌≤◌, ◌<◌, ◌^◌, Bool, true, false, not, Option, Some, None, IfSome, List, [], ◌∷◌, ◌++◌, length, take, drop, replicate, refl, sym, ap, subst, ◌∙◌, arith, inl, inr, lit<, append-nil, length-append}
+use Rattle.std.specs.Prelude.{nat_eq, nat_lt, is_some, if◌then◌else◌, ◌==◌, ◌&&◌, All}
 use Rattle.std.specs.Borrow.{Bor}
 use Rattle.std.specs.Option.{option_map, option_and_then, option_map_or, option_to_list}
 use Rattle.std.proofs.lemmas.Bool.{ne_eqb, ltb-false, le-ltb, leb-false, or_parts}
@@ -9,7 +9,7 @@ use Rattle.std.proofs.lemmas.List.{length-replicate, drop_all, take-append-drop}
 use Rattle.std.proofs.lemmas.Option.{slice_get_past}
 use Rattle.std.proofs.lemmas.List.Elements.{All-nil}
 use Rattle.std.proofs.Math.Bool.{and-false}
-use Rattle.gl_numbers.specs.BufferBindings.{Bindings, bound_to, binding, non_zero}
+use Rattle.gl_numbers.specs.BufferBindings.{Bindings, bound_to}
 use Rattle.gl_numbers.specs.BufferRules.{BufferView, is_other, is_negative, whole}
 use Rattle.gl_numbers.specs.BufferWords.{buffer_target_of, usage_of}
 use Rattle.gl_numbers.specs.ByHandle.{object_at, changed}
@@ -37,20 +37,19 @@ use Rattle.gl_model.specs.BufferRefusals.{bind_rules, size_rules, part_rules}
 use Rattle.gl_model.specs.PageState.{PageState, Object, mark, same_kind, is_live, new_object}
 use Rattle.gl_model.specs.DriverState.{DriverState}
 use Rattle.gl_model.specs.DriverStep as Driver
-use Rattle.gl_model.specs.Replay.{replay, clean}
-use Rattle.gl_model.specs.Shot.{Shot}
+use Rattle.gl_model.specs.Replay.{clean}
 use Rattle.gl_model.proofs.Replaying.{replay-none, replay-one, replay-two, fault-none}
 use Rattle.gl_context.specs.Row.{Row, refusal_of}
 use Rattle.gl_context.specs.ObjectRows.{create_row, delete_row, drops, deleted, next_handle}
-use Rattle.gl_context.specs.BufferRows.{bind_row, data_row, sub_data_row, fill_rules, content_of, part_sent, fill_sent, bound_name}
+use Rattle.gl_context.specs.BufferRows.{bind_row, data_row, sub_data_row, fill_rules, bound_name}
 use Rattle.gl_context.specs.Follows.{Follows, IsGood}
 use Rattle.gl_context.specs.Stands.{IsSound, AreSoundObjects, IsSoundBuffer, Agrees, AgreesOnBuffers, buffer_name}
 use Rattle.gl_context.proofs.Parts.{sound-objects, agrees-buffers}
-use Rattle.gl_context.proofs.Agreeing.{agrees-with, agrees-drop, agrees-bind, agrees-bound, named, name-zero, view-agrees, bound_view-agrees}
-use Rattle.gl_context.proofs.Sounding.{sound-make, sound-drop, sound-bind, sound-fill, sound-patch, first-bound_to}
+use Rattle.gl_context.proofs.Agreeing.{agrees-with, agrees-drop, agrees-bind, agrees-bound, named, name-zero, bound_view-agrees}
+use Rattle.gl_context.proofs.Sounding.{sound-make, sound-drop, sound-bind, sound-fill, sound-patch}
 use Rattle.gl_context.proofs.Keeping.{length-changed, bound-changed_bound}
 use Rattle.gl_context.proofs.Acting.{contents-null, within-bound}
-use Rattle.gl_context.proofs.SentBytes.{fits_make, fits_drop, fits_bind, fits_size, fits_bytes, bytes_fit, part_fit, bind_words, data_words, part_words}
+use Rattle.gl_context.proofs.SentBytes.{fits_make, fits_drop, fits_bind, fits_size, fits_bytes, bytes_fit, part_fit, data_words, part_words}
 
 -- one command, and one before others
 all-cons : (c : Command) (cs : List Command) → Stream.Fits c → All Stream.Fits cs → All Stream.Fits (c ∷ cs)

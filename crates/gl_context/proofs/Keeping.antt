@@ -1,26 +1,24 @@
 -- What the context keeps after a call, and the page's state after its row.
-use Rattle.std.proofs.Common.{◌≡◌, ℕ, ◌+◌, ◌-◌, ◌≤◌, Bool, true, false, cond, not, Option, Some, None, IfSome, List, [], ◌∷◌, ◌++◌, length, refl, sym, ap, subst, ◌∙◌, arith, inl, inr, length-append}
-use Rattle.std.specs.Prelude.{is_some, if◌then◌else◌, ◌==◌, ◌&&◌, slice_get, slice_set}
-use Rattle.std.specs.Option.{option_map, option_and_then, option_map_or}
+use Rattle.std.proofs.Common.{◌≡◌, ℕ, ◌+◌, ◌-◌, true, false, cond, Option, Some, None, IfSome, List, [], ◌∷◌, ◌++◌, length, refl, sym, ap, ◌∙◌, arith, inl, inr, length-append}
+use Rattle.std.specs.Prelude.{◌==◌}
+use Rattle.std.specs.Option.{option_map, option_and_then}
 use Rattle.std.specs.FinMap.{get, insert, remove}
 use Rattle.std.proofs.lemmas.Bool.Decides.{eqb_tells}
 use Rattle.std.proofs.lemmas.List.{length-set}
-use Rattle.gl_numbers.specs.BufferBindings.{Bindings, no_bindings, binding, bound_to, bind, unbind, non_zero}
-use Rattle.gl_numbers.specs.BufferRules.{BufferView}
+use Rattle.gl_numbers.specs.BufferBindings.{Bindings, binding, bound_to}
 use Rattle.gl_numbers.specs.BufferWords.{buffer_target_of}
 use Rattle.gl_numbers.specs.ByHandle.{object_at, changed as changed_object, changed_at as changed_object_at}
 use Rattle.gl_numbers.proofs.ByHandle.{object_at-made, object_at-changed}
 use Rattle.gl_numbers.specs.declared.buffer_words.BufferTarget.{BufferTarget}
 use Rattle.gl_numbers.specs.declared.kinds.Kind.{Kind}
-use Rattle.gl_numbers.specs.declared.kinds.Kind.TheVariants as kind
 use Rattle.object_names.specs.Objects as Names
 use Rattle.buffer_store.specs.StoredBuffer.{StoredBuffer, new_stored}
 use Rattle.buffer_store.specs.StoredBuffer as Store
 use Rattle.buffer_store.specs.Stored.{Shelf, Stored, changed, found}
 use Rattle.buffer_store.specs.Rules as store
 use Rattle.buffer_store.proofs.Shelf.{get-inserted, get-removed, get-changed_at}
-use Rattle.gl_model.specs.Buffers.{Buffer, new_buffer, view_of}
-use Rattle.gl_model.specs.BufferState.{BufferState, with_buffer, changed_buffer, changed_if_bound, changed_bound, make_buffer, drop_buffer, view_at, bound_view}
+use Rattle.gl_model.specs.Buffers.{Buffer, view_of}
+use Rattle.gl_model.specs.BufferState.{BufferState, with_buffer, changed_buffer, changed_if_bound, changed_bound, make_buffer, view_at, bound_view}
 use Rattle.gl_model.specs.PageState.{Object, mark}
 use Rattle.gl_context.specs.Stands.{named, KeepsNames, stored_buffer, KeepsBuffers}
 

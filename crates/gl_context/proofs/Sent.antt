@@ -1,7 +1,5 @@
 -- The commands of a call, as the context sends them.
-use Rattle.std.proofs.Common.{◌≡◌, ℕ, ℤ, pos, negsuc, ◌+◌, ◌≤◌, ◌<◌, ◌^◌, false, Option, Some, List, [], ◌∷◌, length, refl, sym, ap, arith}
-use Rattle.std.specs.Prelude.{if◌then◌else◌, ◌==◌}
-use Rattle.gl_numbers.specs.BufferRules.{whole}
+use Rattle.std.proofs.Common.{◌≡◌, ℕ, Some, ap}
 use Rattle.buffer_store.specs.declared.content.Content as Contents
 use Rattle.call_records.specs.declared.buffer_calls.Fill.{Fill}
 use Rattle.call_records.specs.declared.buffer_calls.Fill.TheVariants.{Size, Bytes}

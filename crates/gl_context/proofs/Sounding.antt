@@ -1,22 +1,16 @@
 -- The buffers stay sound at each change of them.
-use Rattle.std.proofs.Common.{◌≡◌, ℕ, ◌+◌, ◌-◌, ◌≤◌, ◌<◌, Bool, true, false, cond, not, Option, Some, None, IsSome, IfSome, List, [], ◌∷◌, ◌++◌, length, take, drop, refl, sym, ap, subst, ◌∙◌, arith, inl, inr, length-append}
-use Rattle.std.specs.Prelude.{nat_eq, is_some, if◌then◌else◌, ◌==◌, ◌&&◌, slice_set}
+use Rattle.std.proofs.Common.{◌≡◌, ℕ, ◌+◌, ◌-◌, ◌≤◌, Bool, true, false, not, Option, Some, None, IfSome, List, ◌++◌, length, take, drop, refl, sym, ap, subst, ◌∙◌, arith, inl, inr, length-append}
+use Rattle.std.specs.Prelude.{nat_eq, is_some, ◌==◌, ◌&&◌}
 use Rattle.std.specs.Option.{option_map, option_and_then, option_map_or, option_or}
 use Rattle.std.proofs.lemmas.Bool.Decides.{eqb_tells}
-use Rattle.std.proofs.lemmas.List.{length-set, length-take-le, length-drop}
-use Rattle.std.proofs.Math.Bool.{and-false}
-use Rattle.gl_numbers.specs.BufferBindings.{Bindings, binding, bound_to, bind, unbind, without, non_zero}
+use Rattle.std.proofs.lemmas.List.{length-take-le, length-drop}
+use Rattle.gl_numbers.specs.BufferBindings.{binding, bound_to, bind, unbind, without, non_zero}
 use Rattle.gl_numbers.specs.BufferRules.{is_other}
 use Rattle.gl_numbers.specs.BufferWords.{buffer_target_of}
-use Rattle.gl_numbers.specs.ByHandle.{object_at, changed, changed_at}
-use Rattle.gl_numbers.proofs.ByHandle.{object_at-made, object_at-changed}
 use Rattle.gl_numbers.specs.declared.buffer_words.BufferTarget.{BufferTarget}
 use Rattle.gl_numbers.specs.declared.buffer_words.BufferTarget.TheVariants.{Array, ElementArray}
-use Rattle.gl_numbers.specs.declared.kinds.Kind as Kinds
-use Rattle.gl_numbers.specs.declared.kinds.Kind.TheVariants as kind
 use Rattle.gl_model.specs.Buffers.{Buffer, new_buffer, view_of, take_target, take_data, patch}
-use Rattle.gl_model.specs.BufferState.{BufferState, with_buffer, changed_buffer, changed_if_bound, changed_bound, make_buffer, drop_buffer, bind_buffer, fill_buffer, patch_buffer, view_at, bound_view}
-use Rattle.gl_model.specs.PageState.{PageState, first_page, Object, new_object, mark, same_kind, is_live}
+use Rattle.gl_model.specs.BufferState.{BufferState, with_buffer, changed_buffer, changed_if_bound, make_buffer, drop_buffer, bind_buffer, fill_buffer, patch_buffer, view_at}
 use Rattle.gl_context.specs.Stands.{IsSoundBuffer, IsBoundTo, AreSoundBuffers}
 
 -- a buffer that was changed is sound

@@ -1,7 +1,6 @@
 -- What the context did with a call, from what the call did to the stores and what was sent.
-use Rattle.std.proofs.Common.{◌≡◌, ℕ, Bool, true, false, Option, Some, None, List, [], Result, Ok, Err, refl, sym, ap, subst, ◌∙◌, inl, inr, All}
-use Rattle.std.specs.Prelude.{◌==◌, ◌⊎◌}
-use Rattle.std.specs.Option.{option_to_list}
+use Rattle.std.proofs.Common.{◌≡◌, ℕ, Bool, true, false, Option, Some, None, List, [], Err, refl, sym, ap, ◌∙◌, inl, inr}
+use Rattle.std.specs.Prelude.{◌==◌}
 use Rattle.std.specs.Io.KnownBytes.{append_known}
 use Rattle.std.proofs.lemmas.List.Elements.{All-nil}
 use Rattle.gl_numbers.specs.Errors.{code_of}
@@ -29,7 +28,7 @@ use Rattle.gl_model.specs.PageState.{PageState}
 use Rattle.gl_model.specs.DriverState.{DriverState}
 use Rattle.gl_model.proofs.Replaying.{replay-none}
 use Rattle.gl_context.specs.Row.{Stepped, raised, refusal_of, step_judged}
-use Rattle.gl_context.specs.PageStep.{row_of, step, MayRunOut, MayBeOutOfMemory, is_out_of_memory}
+use Rattle.gl_context.specs.PageStep.{row_of, step, MayBeOutOfMemory, is_out_of_memory}
 use Rattle.gl_context.specs.ObjectRows.{object_row}
 use Rattle.gl_context.specs.BufferRows.{buffer_row}
 use Rattle.gl_context.specs.QueryRows.{query_row}

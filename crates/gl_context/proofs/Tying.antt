@@ -1,8 +1,8 @@
 -- The names and the stored buffers stay tied: a buffer is stored for each live object that is one.
-use Rattle.std.proofs.Common.{◌≡◌, ℕ, ℤ, ◌+◌, Bool, true, false, cond, not, Option, Some, None, List, [], ◌∷◌, ◌++◌, length, refl, sym, ap, ◌∙◌, inl, inr}
-use Rattle.std.specs.Prelude.{is_some, if◌then◌else◌, ◌==◌, ◌&&◌}
+use Rattle.std.proofs.Common.{◌≡◌, ℕ, ℤ, ◌+◌, Bool, false, cond, not, Option, Some, None, List, [], ◌∷◌, ◌++◌, length, refl, sym, ap, ◌∙◌, inl, inr}
+use Rattle.std.specs.Prelude.{is_some, ◌&&◌}
 use Rattle.std.specs.Option.{option_map, option_map_or}
-use Rattle.std.specs.FinMap.{get, insert, remove, get-empty}
+use Rattle.std.specs.FinMap.{get, insert, get-empty}
 use Rattle.std.specs.Ordering.{nat_cmp}
 use Rattle.std.proofs.lemmas.Bool.Decides.{eqb_tells}
 use Rattle.std.proofs.Math.Bool.{and-false}
@@ -20,7 +20,7 @@ use Rattle.buffer_store.specs.Stored.{Shelf, Stored, nothing_stored, changed}
 use Rattle.buffer_store.specs.Rules.{without_buffer, patched}
 use Rattle.buffer_store.proofs.Shelf.{get-inserted, get-removed, get-changed_at}
 use Rattle.gl_model.specs.PageState.{same_kind}
-use Rattle.gl_context.specs.Tied.{names_live, AreTied}
+use Rattle.gl_context.specs.Tied.{AreTied}
 
 -- nothing is named and nothing stored
 pub tied-first : AreTied Names.no_names nothing_stored

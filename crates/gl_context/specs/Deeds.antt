@@ -1,5 +1,5 @@
 -- What a call did, before anything was sent: it acted by its row, or it is refused, or memory ran out.
-use Rattle.std.specs.Prelude.{◌≡◌, ◌⊎◌, Option, Some, None, List, [], ◌∷◌, Result, Ok, Err}
+use Rattle.std.specs.Prelude.{◌≡◌, ◌⊎◌, Some, None, List, [], ◌∷◌, Result, Ok, Err}
 use Rattle.gl_numbers.specs.declared.errors.GlError.{GlError}
 use Rattle.gl_numbers.specs.declared.errors.GlError.TheVariants.{Memory}
 use Rattle.command_stream.specs.declared.command.Command.{Command}

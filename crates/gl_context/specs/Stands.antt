@@ -3,7 +3,7 @@
 use Rattle.std.specs.Prelude.{◌≡◌, ℕ, ◌<◌, ◌≤◌, Bool, false, Option, None, Some, is_some, IfSome, List, [], length}
 use Rattle.std.specs.Option.{option_map, option_and_then}
 use Rattle.std.specs.FinMap.{get}
-use Rattle.gl_numbers.specs.BufferBindings.{Bindings, binding}
+use Rattle.gl_numbers.specs.BufferBindings.{binding}
 use Rattle.gl_numbers.specs.ByHandle.{object_at}
 use Rattle.gl_numbers.specs.Limits.{buffer_bytes_max, handles_max}
 use Rattle.gl_numbers.specs.declared.buffer_words.BufferTarget.{BufferTarget}

@@ -1,5 +1,5 @@
 -- What the context does with one call, seen from the page's and the driver's states that it stands for.
-use Rattle.std.specs.Prelude.{◌≡◌, ℕ, true, false, Option, Some, None, List, Result, Ok, Err, All}
+use Rattle.std.specs.Prelude.{◌≡◌, ℕ, true, false, Option, List, Result, Ok, Err, All}
 use Rattle.std.specs.List.{flat_map}
 use Rattle.std.specs.Option.{option_to_list}
 use Rattle.std.specs.Io.KnownBytes.{append_known}

@@ -1,13 +1,12 @@
 -- Records of a table: each encoding is of one record, its length is one that its row allows, and what is read fits the row.
-use Rattle.std.proofs.Common.{◌≡◌, ℕ, ◌+◌, ◌-◌, ◌%◌, ◌<◌, ◌≤◌, ◌^◌, Bool, List, [], ◌∷◌, ◌++◌, length, take, drop, Option, Some, None, true, false, ◌&&◌, ◌==◌, nat_le, refl, sym, ap, subst, ◌∙◌, arith, append_assoc, length-append, append-nil}
+use Rattle.std.proofs.Common.{◌≡◌, ℕ, ◌+◌, ◌-◌, ◌%◌, ◌<◌, ◌≤◌, ◌^◌, Bool, List, [], ◌∷◌, ◌++◌, length, take, drop, Option, Some, true, false, ◌&&◌, ◌==◌, nat_le, refl, sym, ap, subst, ◌∙◌, arith, append_assoc, length-append, append-nil}
 use Rattle.std.proofs.Math.Seq.{take-append_seam, drop-append_seam}
 use Rattle.std.proofs.lemmas.Bool.Decides.{nat_tests}
 use Rattle.gl_numbers.specs.Bytes.{le32}
-use Rattle.gl_numbers.specs.declared.fields.Letter.{Letter}
 use Rattle.gl_numbers.specs.declared.fields.Tail.{Tail}
 use Rattle.gl_numbers.specs.declared.fields.Tail.TheVariants.{Nothing, Bytes}
 use Rattle.gl_numbers.specs.declared.fields.Tail.TheVariants as Tails
-use Rattle.gl_numbers.specs.Fields.{TableRow, Value, Parts, fields_size, values_size, has_tail, allows, body_encoding, body, record_encoding, FitsLetters, FitsTail, FitsRow, EndsTail, ReadsRow}
+use Rattle.gl_numbers.specs.Fields.{TableRow, Value, Parts, fields_size, has_tail, allows, body_encoding, body, record_encoding, FitsLetters, FitsTail, FitsRow, EndsTail, ReadsRow}
 use Rattle.gl_numbers.proofs.Bytes.{length-le32, le32-one}
 use Rattle.gl_numbers.proofs.Bodies.{length-body, values_size-fits, body-one}
 

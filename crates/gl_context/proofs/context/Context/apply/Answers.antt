@@ -1,5 +1,5 @@
 -- The reply is the page's step, and the driver follows.
-use Rattle.std.proofs.Common.{◌≡◌, refl, sym, ap, ◌∙◌}
+use Rattle.std.proofs.Common.{◌∙◌}
 use Rattle.gl_context.specs.Stands.{Stands}
 use Rattle.gl_context.proofs.Steps.{steps-error, steps-acted, stops-acted}
 use Rattle.gl_context.proofs.context.Context.apply.Goals as goal
