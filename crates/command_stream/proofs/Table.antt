@@ -6,7 +6,7 @@ use Rattle.gl_numbers.proofs.FieldsOfCommands.{allows-most}
 use Rattle.command_stream.specs.declared.operation.Operation.{Operation}
 use Rattle.command_stream.specs.declared.operation.Operation.TheVariants.{Object, Buffer}
 use Rattle.command_stream.specs.declared.command.Command.{Command}
-use Rattle.command_stream.specs.Operations.{row_of, number_of, operation_numbered, allows, has_shape, body_max}
+use Rattle.command_stream.specs.Operations.{row_of, number_of, allows, has_shape, body_max}
 use Rattle.command_stream.specs.Commands.{parts_of, op_of, body_of, Fits}
 use Rattle.command_stream.proofs.Numbered.{IsInTable}
 use Rattle.command_stream.proofs.ObjectRows.{object-in-table}

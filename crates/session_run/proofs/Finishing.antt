@@ -1,5 +1,5 @@
 -- From how reading ended, and from the last flushes, to what a run did by its status.
-use Rattle.std.proofs.Common.{◌≡◌, ℕ, ◌⊎◌, Option, Some, List, [], ◌++◌, length, refl, sym, ap, subst, ◌∙◌, arith, inl, inr, append-nil}
+use Rattle.std.proofs.Common.{◌≡◌, ℕ, Option, Some, List, [], refl, sym, ap, subst, ◌∙◌, arith, inl, inr, append-nil}
 use Rattle.wire_io.specs.declared.status.Status as Statuses
 use Rattle.wire_io.specs.declared.status.Status.TheVariants as Status
 use Rattle.call_records.specs.declared.reading.ReadEnd.{ReadEnd}

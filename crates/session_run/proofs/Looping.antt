@@ -1,5 +1,5 @@
 -- The loop over records: its start, one more call, and a call that was cut short.
-use Rattle.std.proofs.Common.{◌≡◌, ℕ, ◌+◌, ◌-◌, ◌<◌, ◌≤◌, ◌^◌, Option, Some, None, List, [], ◌∷◌, ◌++◌, length, Ok, Err, refl, sym, ap, subst, ◌∙◌, arith, length-append}
+use Rattle.std.proofs.Common.{◌≡◌, ℕ, ◌+◌, ◌-◌, ◌<◌, ◌≤◌, ◌^◌, Option, Some, None, List, [], ◌∷◌, ◌++◌, length, refl, sym, ap, subst, ◌∙◌, arith, length-append}
 use Rattle.std.specs.Option.{option_to_list}
 use Rattle.std.specs.Io.KnownBytes.{prepend_known, append_known}
 use Rattle.wire_io.proofs.Known.{taken_twice, sent_twice}
@@ -17,7 +17,7 @@ use Rattle.gl_context.specs.PageRun.{Taken, page_after, replies, shots, OutOfMem
 use Rattle.gl_context.specs.Stands.{Kept, Stands}
 use Rattle.gl_context.specs.Steps.{bytes_of}
 use Rattle.session_run.specs.Ends.{Sinks, Ends}
-use Rattle.session_run.specs.Serving.{calls_of, records_of, answered_by, place_after, HasRoomAfter, AreTaken, Drives, Progress}
+use Rattle.session_run.specs.Serving.{calls_of, records_of, answered_by, HasRoomAfter, AreTaken, Drives, Progress}
 use Rattle.session_run.specs.Loop.{SoFar, OneAnswered, OneCut, RanUntilCut}
 use Rattle.session_run.proofs.Answering.{nothing_added}
 use Rattle.session_run.proofs.Driving.{drives-none, drives-then}

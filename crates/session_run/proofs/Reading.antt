@@ -1,11 +1,9 @@
 -- What was read of the source alone.
-use Rattle.std.proofs.Common.{◌≡◌, ℕ, ◌+◌, ◌≤◌, ◌^◌, Option, Some, None, List, [], ◌++◌, Result, Ok, Err, refl, sym, ap, subst, ◌∙◌, arith, inl, inr}
+use Rattle.std.proofs.Common.{◌≡◌, ℕ, ◌+◌, ◌≤◌, ◌^◌, Option, Some, None, List, ◌++◌, Result, Ok, Err, refl, ap, subst, arith, inl, inr}
 use Rattle.std.specs.Prelude.{All}
 use Rattle.std.specs.Io.KnownBytes.{prepend_known}
 use Rattle.wire_io.specs.Sources.{WhereTold}
 use Rattle.wire_io.specs.declared.status.Status as Statuses
-use Rattle.wire_io.specs.declared.status.Status.TheVariants as Status
-use Rattle.call_records.specs.declared.calls.Call.{Call}
 use Rattle.call_records.specs.declared.reading.Step.{Step}
 use Rattle.call_records.specs.declared.reading.Step.TheVariants.{End}
 use Rattle.call_records.specs.declared.reading.ReadEnd.{ReadEnd}
@@ -15,7 +13,7 @@ use Rattle.call_records.specs.Reading.{StartAnswers, Answers, HasRoom}
 use Rattle.gl_context.specs.PageRun.{Taken}
 use Rattle.gl_context.specs.Stands.{Kept}
 use Rattle.session_run.specs.Ends.{Ends}
-use Rattle.session_run.specs.Serving.{calls_of, records_of, place_after}
+use Rattle.session_run.specs.Serving.{calls_of, records_of}
 use Rattle.session_run.specs.Statuses.{status_of}
 use Rattle.session_run.specs.Loop.{SoFar, ReadWhole, ReadRefused, RanTo, RunsRecords}
 use Rattle.session_run.specs.Reads.{WholeSession, RefusesReading, RefusedAs, ReadsAs, SessionReads}

@@ -1,12 +1,9 @@
 -- From the loop over records to what a run did with all its bytes.
-use Rattle.std.proofs.Common.{◌≡◌, ℕ, suc, ◌+◌, ◌≤◌, Option, Some, None, List, [], ◌∷◌, ◌++◌, length, take, Result, Ok, Err, refl, sym, ap, subst, ◌∙◌, arith, inl, inr, append-nil, append_assoc}
+use Rattle.std.proofs.Common.{◌≡◌, ℕ, suc, ◌≤◌, Option, Some, None, List, [], ◌∷◌, ◌++◌, length, take, Result, Ok, Err, refl, sym, ap, subst, ◌∙◌, inl, inr, append-nil, append_assoc}
 use Rattle.std.specs.Option.{option_to_list}
 use Rattle.std.specs.Io.KnownBytes.{prepend_known, append_known}
-use Rattle.std.proofs.lemmas.List.Elements.{All-append}
 use Rattle.wire_io.specs.Sources.{WhereTold}
-use Rattle.wire_io.proofs.Told.{told}
 use Rattle.call_records.specs.declared.reading.ReadEnd.{ReadEnd}
-use Rattle.call_records.specs.declared.calls.Call.{Call}
 use Rattle.call_records.specs.Records.{encoding, session_start, Fits}
 use Rattle.call_records.specs.Replies.{reply_encoding}
 use Rattle.call_records.specs.Reading.{StartAnswers}
@@ -15,14 +12,13 @@ use Rattle.command_stream.specs.declared.command.Command.{Command}
 use Rattle.gl_model.specs.PageState.{PageState, first_page}
 use Rattle.gl_model.specs.DriverState.{DriverState, first_driver}
 use Rattle.gl_model.specs.Replay.{Replayed}
-use Rattle.gl_model.specs.Shot.{Shot}
 use Rattle.gl_context.specs.PageStep.{step}
 use Rattle.gl_context.specs.PageRun.{Taken, step_taken, page_after, replies, shots, all_sent}
 use Rattle.gl_context.specs.Steps.{bytes_of}
-use Rattle.session_run.specs.Ends.{Sinks, Ends, ends}
+use Rattle.session_run.specs.Ends.{Ends, ends}
 use Rattle.session_run.specs.Serving.{calls_of, records_of, answered_by, AreTaken, Drives}
 use Rattle.session_run.specs.Loop.{ReadWhole, ReadRefused, RanUntilCut, RunsRecords}
-use Rattle.session_run.specs.Outcomes.{Transcript, Served, CutInCall, Did, WhereAllTold}
+use Rattle.session_run.specs.Outcomes.{Served, Did, WhereAllTold}
 use Rattle.session_run.specs.declared.records.RunEnd.{RunEnd}
 use Rattle.session_run.specs.declared.records.RunEnd.TheVariants.{Read, Write}
 use Rattle.session_run.proofs.Driving.{drives-then, driven-faultless, driven-shots, driven-prefixes}

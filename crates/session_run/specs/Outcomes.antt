@@ -1,5 +1,5 @@
 -- What a run did with all the bytes that it was given, by its status.
-use Rattle.std.specs.Prelude.{◌≡◌, ℕ, ◌+◌, ◌<◌, ◌≤◌, ◌⊎◌, true, Option, Some, None, List, [], ◌∷◌, ◌++◌, length, take, map, Result, Ok, Err, All}
+use Rattle.std.specs.Prelude.{◌≡◌, ℕ, ◌<◌, ◌≤◌, ◌⊎◌, true, Some, None, List, [], ◌∷◌, ◌++◌, length, take, map, Result, Ok, Err, All}
 use Rattle.wire_io.specs.declared.status.Status as Statuses
 use Rattle.wire_io.specs.declared.status.Status.TheVariants as Status
 use Rattle.call_records.specs.declared.reading.Step.{Step}

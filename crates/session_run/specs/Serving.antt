@@ -1,7 +1,6 @@
 -- Calls that are served: their replies, and the commands that a driver takes for them.
-use Rattle.std.specs.Prelude.{◌≡◌, ℕ, ◌+◌, ◌<◌, ◌≤◌, Bool, true, Option, List, length, take, map, All}
+use Rattle.std.specs.Prelude.{◌≡◌, ℕ, ◌+◌, ◌<◌, ◌≤◌, List, length, take, map, All}
 use Rattle.std.specs.List.{flat_map}
-use Rattle.std.specs.Option.{option_to_list}
 use Rattle.std.specs.Io.KnownBytes.{append_known}
 use Rattle.call_records.specs.Numbers.{header_bytes, input_max}
 use Rattle.call_records.specs.declared.calls.Call.{Call}

@@ -1,10 +1,6 @@
-use Rattle.std.proofs.Common.{◌≡◌, ◌+◌, ◌*◌, ◌≤◌, ◌++◌, ℕ, length, map, Err, refl, arith}
-use Rattle.std.specs.List.{flat_map}
-use Rattle.gl_numbers.specs.Bytes.{le32}
+use Rattle.std.proofs.Common.{Err, refl, arith}
 use Rattle.gl_numbers.proofs.FieldsOfCommands.{length-body_words}
-use Rattle.wire_io.specs.Sinks.{Sends}
 use Rattle.wire_io.proofs.Known.{sends_then, sends_stop}
-use Rattle.command_stream.specs.Operations.{body_max}
 use Rattle.command_stream.proofs.Heads.{sends-tail}
 use Rattle.command_stream.proofs.write.write_with_bytes.Goals as goal
 

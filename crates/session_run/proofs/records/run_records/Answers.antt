@@ -2,7 +2,6 @@
 use Rattle.std.proofs.Common.{arith, ◌≤◌, ◌+◌, ◌^◌, length}
 use Rattle.call_records.specs.Records.{encoding}
 use Rattle.session_run.proofs.Looping.{begins, goes_on, cut_short, nearer}
-use Rattle.session_run.proofs.Reading.{ran_whole, ran_refused}
 use Rattle.session_run.proofs.records.run_records.Goals as goal
 
 pub loop-call-init : goal.loop-call-init

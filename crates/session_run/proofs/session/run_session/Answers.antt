@@ -1,10 +1,9 @@
 -- What the run did, and what the last flushes made of it.
-use Rattle.std.proofs.Common.{◌≡◌, Err, sym, ap, subst, ◌∙◌}
+use Rattle.std.proofs.Common.{Err, sym, ap, subst, ◌∙◌}
 use Rattle.wire_io.specs.declared.status.Status.TheVariants as Status
 use Rattle.call_records.specs.declared.reading.ReadEnd.{ReadEnd}
 use Rattle.session_run.specs.declared.records.RunEnd.TheVariants.{Read}
 use Rattle.session_run.specs.Outcomes.{IsSessionStatus}
-use Rattle.session_run.specs.Reads.{SessionReads}
 use Rattle.session_run.proofs.Finishing.{finished, unopened, told_ended, finished-session, finished-reads, status_of-session}
 use Rattle.session_run.proofs.Reading.{reads_end}
 use Rattle.session_run.proofs.Telling.{told_header}
