@@ -1,82 +1,107 @@
 #!/usr/bin/env python3
-"""Prints how many processor minutes each crate's proofs, tests and wrong bodies take, as a table for docs/proofs.md.
+"""Runs the gate from nothing on a clone of the last commit, and prints what it took: the time of the whole run, and the
+processor minutes of each crate's proofs, tests and wrong bodies, as a table for docs/proofs.md.
 
-It works on a clone of the last commit in a folder of its own, lowest crates first, with one job. `rt` begins with what checks
-in other copies of the repository on the same machine have kept, so the numbers are those from nothing only where there is no
-other copy: a lower number says that something was kept.
+Every half second it reads what each prover process below this one has used, so what a process uses in its last moments is
+not counted: some tenths of a second for each. The time says something only where nothing else runs on the machine; the
+processor minutes grow by up to a third where other work shares it.
 
-usage: bench/proofs.py [CRATE..]      (all crates, where none is given; those below the named ones are proved first, uncounted)
+usage: bench/proofs.py [LOG]      (LOG: a file for what the gate says; none, where none is given)
 """
 
+import collections
 import os
 import pathlib
-import resource
+import re
 import subprocess
 import sys
 import tempfile
+import time
 
 TOP = pathlib.Path(__file__).resolve().parent.parent
+TICK = os.sysconf("SC_CLK_TCK")
+PARTS = ("proofs", "tests", "wrong bodies")
 
 
 def crates(root):
-    """Each crate with the crates of this repository that it stands on, as crates.txt lists them."""
-    lines = [line.split(":") for line in (root / "crates.txt").read_text().splitlines() if ":" in line]
-    names = [head.split()[0] for head, _ in lines]
-    return {head.split()[0]: [name for name in below.split() if name in names] for head, below in lines}
+    """The crates that crates.txt lists, in its order."""
+    return [line.split(":")[0].split()[0] for line in (root / "crates.txt").read_text().splitlines() if ":" in line]
 
 
-def lowest_first(below, wanted):
-    """The wanted crates and those below them, each after those that it stands on."""
-    order = []
-
-    def add(name):
-        if name not in order:
-            for it in below[name]:
-                add(it)
-            order.append(name)
-
-    for name in wanted:
-        add(name)
-    return order
+def processes():
+    """Each process that can be read: its number and start, its parent, its processor seconds, and its command line."""
+    for name in os.listdir("/proc"):
+        if name.isdigit():
+            try:
+                fields = pathlib.Path(f"/proc/{name}/stat").read_text().rsplit(")", 1)[1].split()
+                command = pathlib.Path(f"/proc/{name}/cmdline").read_text().replace("\0", " ")
+            except OSError:
+                continue
+            yield (int(name), fields[19]), int(fields[1]), (int(fields[11]) + int(fields[12])) / TICK, command
 
 
-def minutes(words, folder):
-    """The processor minutes that a command takes with all that it starts."""
-    before = resource.getrusage(resource.RUSAGE_CHILDREN)
-    done = subprocess.run(words, cwd=folder, env={**os.environ, "RT_JOBS": "1"}, capture_output=True, text=True, check=False)
-    after = resource.getrusage(resource.RUSAGE_CHILDREN)
-    if done.returncode:
-        sys.exit(f"{' '.join(words)} in {folder} ended with {done.returncode}\n{(done.stdout + done.stderr)[-2000:]}")
-    return (after.ru_utime + after.ru_stime - before.ru_utime - before.ru_stime) / 60
+def below(root, found):
+    """The processes below one, by their parents."""
+    kept, grew = {root}, True
+    while grew:
+        more = {key[0] for key, parent, _, _ in found if parent in kept} - kept
+        kept |= more
+        grew = bool(more)
+    return kept
 
 
-def lines(crate, part, ending):
-    return sum(len(path.read_text().splitlines()) for path in (crate / part).rglob(f"*.{ending}"))
+def part(command):
+    """The crate that a prover works on, and for which of the three parts."""
+    crate = re.search(r"--crate-name (\S+)", command)
+    if not crate:
+        return None
+    if "rt-edits" in command:
+        return crate[1], "wrong bodies"
+    return crate[1], "tests" if " --test " in command else "proofs"
+
+
+def watch(gate):
+    """Adds up the seconds of each part of each crate until the gate has ended."""
+    last, sums = {}, collections.Counter()
+    while gate.poll() is None:
+        found = list(processes())
+        ours = below(gate.pid, found)
+        for key, _, seconds, command in found:
+            where = key[0] in ours and part(command)
+            if where:
+                sums[where] += seconds - last.get(key, 0)
+                last[key] = seconds
+        time.sleep(0.5)
+    return sums
+
+
+def lines(crate, folder, ending):
+    return sum(len(path.read_text().splitlines()) for path in (crate / folder).rglob(f"*.{ending}"))
+
+
+def show(root, sums):
+    print("| Crate | Code | Definitions | Proofs | Wrong bodies | Proving | Tests | Trying wrong bodies |")
+    print("|---|---|---|---|---|---|---|---|")
+    for name in crates(root):
+        crate = root / "crates" / name
+        sizes = [lines(crate, folder, ending) for folder, ending in (("src", "rt"), ("specs", "antt"), ("proofs", "antt"))]
+        numbers = [*sizes, len(list(crate.glob("must-fail/*.edit")))]
+        minutes = [f"{sums[name, it] / 60:.1f}" for it in PARTS]
+        print(f"| `{name}` | {' | '.join([*map(str, numbers), *minutes])} |")
+    whole = [f"{sum(seconds for (_, it), seconds in sums.items() if it == wanted) / 60:.0f}" for wanted in PARTS]
+    print(f"| all | | | | | {' | '.join(whole)} |")
 
 
 def main():
+    log = open(sys.argv[1], "w") if len(sys.argv) > 1 else subprocess.DEVNULL
     with tempfile.TemporaryDirectory() as folder:
         root = pathlib.Path(folder) / "clone"
         subprocess.run(["git", "clone", "-q", str(TOP), str(root)], check=True)
-        below = crates(root)
-        wanted = sys.argv[1:] or list(below)
-        print("| Crate | Code | Definitions | Proofs | Wrong bodies | Proving | Tests | Trying wrong bodies |")
-        print("|---|---|---|---|---|---|---|---|")
-        sums = [0.0, 0.0, 0.0]
-        for name in lowest_first(below, wanted):
-            crate = root / "crates" / name
-            proving = minutes(["rt", "check"], crate)
-            if name not in wanted:
-                continue
-            edits = len(list(crate.glob("must-fail/*.edit")))
-            has_tests = any("#[test]" in path.read_text() for path in crate.glob("src/**/*.rt"))
-            tests = minutes(["rt", "test"], crate) if has_tests else 0.0
-            trying = minutes(["rt", "must-fail", name, "--anew"], root) if edits else 0.0
-            sums = [a + b for a, b in zip(sums, (proving, tests, trying))]
-            sizes = [lines(crate, part, ending) for part, ending in (("src", "rt"), ("specs", "antt"), ("proofs", "antt"))]
-            numbers = [*map(str, sizes), str(edits), *(f"{it:.1f}" for it in (proving, tests, trying))]
-            print(f"| `{name}` | {' | '.join(numbers)} |", flush=True)
-        print(f"| all | | | | | {' | '.join(f'{it:.1f}' for it in sums)} |")
+        start = time.time()
+        gate = subprocess.Popen(["rt", "ci", "--anew"], cwd=root, stdout=log, stderr=subprocess.STDOUT)
+        sums = watch(gate)
+        print(f"rt ci --anew: status {gate.returncode}, {(time.time() - start) / 60:.0f} minutes on {os.cpu_count()} processors\n")
+        show(root, sums)
 
 
 if __name__ == "__main__":

@@ -177,7 +177,7 @@ good-deleted w g handle sound agrees e =
       sound-objects w _ _ sound objects (sound-drop handle w.buffers sound.buffers),
       all-one _ (fits_drop (buffer_name handle) (omega (arith, small))),
       follows-one g (command.Object (DropBuffer (buffer_name handle))) _ (rw there refl) refl refl
-      (agrees-buffers w g _ _ agrees (agrees-drop handle w.buffers g.buffers agrees.buffers)),
+          (agrees-buffers w g _ _ agrees (agrees-drop handle w.buffers g.buffers agrees.buffers)),
     )
 
 -- deleteBuffer

@@ -128,7 +128,7 @@ names-made names objects held o room k free =
             let here : (h == length objects + 1) ≡ true = ap (λ n. h == n + 1) (sym count) ∙ same.0 in
             let none : held h ≡ 0 = ap held (same.1 ∙ ap (λ n. n + 1) count) ∙ free in
             rw same.0 (sym (ap (option_map (named (held h))) (object_at-made objects o h ∙ ap (λ b. cond b (Some o) (object_at objects h)) here)
-                ∙ ap (λ n. Some (named n o)) none))
+            ∙ ap (λ n. Some (named n o)) none))
         | inr other ↦
             let elsewhere : (h == length objects + 1) ≡ false = ap (λ n. h == n + 1) (sym count) ∙ other.0 in
             rw other.0 (k.each h ∙ sym (ap (option_map (named (held h))) (object_at-made objects o h ∙ ap (λ b. cond b (Some o) (object_at objects h)) elsewhere)))

@@ -30,7 +30,7 @@ impl Model for Name {
     ghost inverse = { λ d. record { bytes = padded 256 d; len = length d } };
 
     ghost inverse_ok = { λ a h.
-      ap (λ p. let inside : Inside = record { bytes = p.0; len = p.1 } in inside) (padded-of_prefix 256 a.len a.bytes h) };
+        ap (λ p. let inside : Inside = record { bytes = p.0; len = p.1 } in inside) (padded-of_prefix 256 a.len a.bytes h) };
 }
 
 impl Name {
@@ -82,7 +82,7 @@ impl Model for Words {
     ghost inverse = { λ d. record { words = padded 16 d; len = length d } };
 
     ghost inverse_ok = { λ a h.
-      ap (λ p. let inside : Inside = record { words = p.0; len = p.1 } in inside) (padded-of_prefix 16 a.len a.words h) };
+        ap (λ p. let inside : Inside = record { words = p.0; len = p.1 } in inside) (padded-of_prefix 16 a.len a.words h) };
 }
 
 impl Words {
