@@ -42,6 +42,7 @@ pub enum Taken {
 }
 
 /// Copies the piece after the first `held` bytes.
+#[inline(always)]
 pub fn hold(bytes: &mut [u8], held: usize, piece: &[u8])
     requires { held + length piece.now ≤ length bytes.old }
     ensures size { length bytes.new ≡ length bytes.old }
@@ -51,6 +52,7 @@ pub fn hold(bytes: &mut [u8], held: usize, piece: &[u8])
 }
 
 /// The first eight bytes of what was begun and the piece after it; None where there are fewer.
+#[inline]
 fn first_eight(begun: &[u8], piece: &[u8]) -> Option<[u8; 8]>
     ensures { AreFirst begun.now piece.now result }
 {
@@ -69,6 +71,7 @@ fn first_eight(begun: &[u8], piece: &[u8]) -> Option<[u8; 8]>
 }
 
 /// The operation and the body's length of a command's header; None where it is refused.
+#[inline]
 fn judge(header: &[u8; 8]) -> Option<(Operation, u32)>
     ensures { Judges header.now result }
 {
@@ -96,6 +99,7 @@ fn look_for_start(begun: &[u8], piece: &[u8]) -> Start
 }
 
 /// Takes the piece after the first `held` bytes of a command, up to the command's end.
+#[inline]
 fn take_command(bytes: &mut [u8], held: usize, piece: &[u8]) -> Taken
     requires room { length bytes.old ≡ COMMAND_MAX }
     requires within { held ≤ COMMAND_MAX }
@@ -131,6 +135,7 @@ fn take_command(bytes: &mut [u8], held: usize, piece: &[u8]) -> Taken
 
 /// Takes the piece after the first `held` bytes of the stream's header or else of a command, up to the end of
 /// the first whole command.
+#[inline]
 pub fn take_in(bytes: &mut [u8], started: bool, held: usize, piece: &[u8]) -> Taken
     requires room { length bytes.old ≡ COMMAND_MAX }
     requires within { held ≤ COMMAND_MAX }
