@@ -151,6 +151,7 @@ fn read_body<'b, S: Source>(
     ensures short { IfErr result (EndsShort at len (S.left input.old) (S.left input.new)) }
     ensures cause { ReadCause (S.faults input.old) (S.faults input.new) result }
 {
+    buf.reach(len);
     let body = &mut buf.bytes_mut()[..len];
     match fill(input, at, body) {
         Ok(()) => Ok(Call::of(operation, body)),
