@@ -1,4 +1,4 @@
-ghost use Rattle.std.specs.Prelude.{◌≡◌, ◌+◌, ◌<◌, ◌≤◌, ◌++◌, length, take, true};
+ghost use Rattle.std.specs.Prelude.{◌≡◌, ◌+◌, ◌<◌, ◌≤◌, ◌++◌, min, length, take, true};
 ghost use Rattle.command_stream.specs.DecoderState.{IsPart};
 ghost use Rattle.command_stream.specs.Taking.{AreFirst, Judges, StartsIn, TakesIn};
 
@@ -101,8 +101,8 @@ fn look_for_start(begun: &[u8], piece: &[u8]) -> Start
 /// Takes the piece after the first `held` bytes of a command, up to the command's end.
 #[inline]
 fn take_command(bytes: &mut [u8], held: usize, piece: &[u8]) -> Taken
-    requires room { length bytes.old ≡ COMMAND_MAX }
-    requires within { held ≤ COMMAND_MAX }
+    requires room { min (held + length piece.now) COMMAND_MAX ≤ length bytes.old }
+    requires within { held ≤ length bytes.old }
     requires begun { IsPart true (take held bytes.old) }
     ensures { TakesIn true bytes.old held piece.now bytes.new result }
 {
@@ -137,8 +137,8 @@ fn take_command(bytes: &mut [u8], held: usize, piece: &[u8]) -> Taken
 /// the first whole command.
 #[inline]
 pub fn take_in(bytes: &mut [u8], started: bool, held: usize, piece: &[u8]) -> Taken
-    requires room { length bytes.old ≡ COMMAND_MAX }
-    requires within { held ≤ COMMAND_MAX }
+    requires room { min (held + length piece.now) COMMAND_MAX ≤ length bytes.old }
+    requires within { held ≤ length bytes.old }
     requires begun { IsPart started (take held bytes.old) }
     ensures { TakesIn started bytes.old held piece.now bytes.new result }
 {
