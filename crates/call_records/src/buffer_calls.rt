@@ -58,6 +58,7 @@ pub enum BufferOperation {
 
 impl BufferOperation {
     /// The operation of this number; None exactly where none of these has it.
+    #[inline(always)]
     #[tactic(auto, unfolding(crate::specs::BufferRecords::buffer_numbered))]
     pub fn from_u32(n: u32) -> Option<Self>
         ensures found { result ≡ buffer_numbered n }
@@ -74,6 +75,7 @@ impl BufferOperation {
     }
 
     /// The operation's row of the record table.
+    #[inline(always)]
     pub fn row(self) -> Row
         ensures { result ≡ buffer_row self }
     {
@@ -93,6 +95,7 @@ impl BufferOperation {
 
 impl<'a> BufferCall<'a> {
     /// The call of an operation, its fields and its tail read in order.
+    #[inline(always)]
     pub fn read(operation: BufferOperation, fields: &mut Fields<'a>) -> Self
         requires { allows BODY_MAX (buffer_row operation) (length fields.old) ≡ true }
         ensures { ReadsRow buffer_row operation fields.old fields.new (buffer_parts result) }
@@ -125,6 +128,7 @@ impl<'a> BufferCall<'a> {
     }
 
     /// The call's operation.
+    #[inline(always)]
     pub fn operation(&self) -> BufferOperation
         ensures { result ≡ (buffer_parts self.now).operation }
     {
@@ -172,6 +176,7 @@ impl<'a> BufferCall<'a> {
     }
 
     /// The bytes that follow the call's fields, if any do.
+    #[inline(always)]
     pub fn tail(&self) -> &'a [u8]
         ensures { result.now ≡ (buffer_parts self.now).tail }
     {

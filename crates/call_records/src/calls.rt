@@ -24,6 +24,7 @@ pub enum Call<'a> {
 
 impl<'a> Call<'a> {
     /// The bytes of the call's whole record, header and body.
+    #[inline]
     #[tactic(auto, using(crate::proofs::Lengths::length_fits))]
     pub fn size(&self) -> usize
         requires { Fits self.now }
@@ -33,6 +34,7 @@ impl<'a> Call<'a> {
     }
 
     /// The call of an operation with this body.
+    #[inline]
     #[tactic(auto, using(gl_numbers::proofs::OneRecord::read_fits))]
     pub fn of(operation: Operation, body: &'a [u8]) -> Self
         requires { allows BODY_MAX (row_of operation) (length body.now) ≡ true }
@@ -45,6 +47,7 @@ impl<'a> Call<'a> {
     }
 
     /// The call of an operation, its fields and its tail read in order.
+    #[inline]
     fn read(operation: Operation, fields: &mut Fields<'a>) -> Self
         requires { allows BODY_MAX (row_of operation) (length fields.old) ≡ true }
         ensures { ReadsRow row_of operation fields.old fields.new (parts_of result) }
@@ -57,6 +60,7 @@ impl<'a> Call<'a> {
     }
 
     /// The call's operation.
+    #[inline]
     pub fn operation(&self) -> Operation
         ensures { result ≡ operation_of self.now }
     {
@@ -79,6 +83,7 @@ impl<'a> Call<'a> {
     }
 
     /// The bytes that follow the call's fields, if any do.
+    #[inline]
     pub fn tail(&self) -> &'a [u8]
         ensures { result.now ≡ (parts_of self.now).tail }
     {

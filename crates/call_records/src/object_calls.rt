@@ -43,6 +43,7 @@ pub enum ObjectOperation {
 
 impl ObjectOperation {
     /// The operation of this number; None exactly where none of these has it.
+    #[inline(always)]
     #[tactic(auto, unfolding(crate::specs::ObjectRecords::object_numbered))]
     pub fn from_u32(n: u32) -> Option<Self>
         ensures found { result ≡ object_numbered n }
@@ -57,6 +58,7 @@ impl ObjectOperation {
     }
 
     /// The operation's row of the record table.
+    #[inline(always)]
     pub fn row(self) -> Row
         ensures { result ≡ object_row self }
     {
@@ -71,6 +73,7 @@ impl ObjectOperation {
 
 impl ObjectCall {
     /// The call of an operation, its fields read in order.
+    #[inline(always)]
     pub fn read(operation: ObjectOperation, fields: &mut Fields<'_>) -> Self
         requires { allows BODY_MAX (object_row operation) (length fields.old) ≡ true }
         ensures { ReadsRow object_row operation fields.old fields.new (object_parts result) }
@@ -89,6 +92,7 @@ impl ObjectCall {
     }
 
     /// The call's operation.
+    #[inline(always)]
     pub fn operation(&self) -> ObjectOperation
         ensures { result ≡ (object_parts self.now).operation }
     {

@@ -27,6 +27,7 @@ pub enum Operation {
 
 impl Operation {
     /// The operation of this number; None exactly where the table has none.
+    #[inline(always)]
     #[tactic(auto, unfolding(crate::specs::Operations::operation_numbered))]
     pub fn from_u32(n: u32) -> Option<Self>
         ensures found { result ≡ operation_numbered n }
@@ -45,6 +46,7 @@ impl Operation {
     }
 
     /// The operation's row of the record table.
+    #[inline(always)]
     pub fn row(self) -> Row
         ensures { result ≡ row_of self }
     {

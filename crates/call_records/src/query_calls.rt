@@ -21,6 +21,7 @@ pub enum QueryOperation {
 
 impl QueryOperation {
     /// The operation of this number; None exactly where none of these has it.
+    #[inline(always)]
     #[tactic(auto, unfolding(crate::specs::QueryRecords::query_numbered))]
     pub fn from_u32(n: u32) -> Option<Self>
         ensures found { result ≡ query_numbered n }
@@ -33,6 +34,7 @@ impl QueryOperation {
     }
 
     /// The operation's row of the record table.
+    #[inline(always)]
     pub fn row(self) -> Row
         ensures { result ≡ query_row self }
     {
@@ -45,6 +47,7 @@ impl QueryOperation {
 
 impl QueryCall {
     /// The call of an operation, its fields read in order.
+    #[inline(always)]
     pub fn read(operation: QueryOperation, fields: &mut Fields<'_>) -> Self
         requires { allows BODY_MAX (query_row operation) (length fields.old) ≡ true }
         ensures { ReadsRow query_row operation fields.old fields.new (query_parts result) }
@@ -55,6 +58,7 @@ impl QueryCall {
     }
 
     /// The call's operation.
+    #[inline(always)]
     pub fn operation(&self) -> QueryOperation
         ensures { result ≡ (query_parts self.now).operation }
     {

@@ -63,6 +63,7 @@ enum Head {
 }
 
 /// Fills the piece, before which `at` bytes of the session were taken.
+#[inline]
 fn fill<S: Source>(input: &mut S, at: u64, piece: &mut [u8]) -> Result<(), ReadEnd>
     requires { at + length piece.old < 2 ^ 64 }
     ensures filled { OnOk result (S.left input.old ≡ prepend_known piece.new (S.left input.new)) }
@@ -79,6 +80,7 @@ fn fill<S: Source>(input: &mut S, at: u64, piece: &mut [u8]) -> Result<(), ReadE
 }
 
 /// Reads two words, before which `at` bytes of the session were taken.
+#[inline]
 fn read_words<S: Source>(input: &mut S, at: u64) -> Result<(u32, u32), ReadEnd>
     requires { at ≤ 2 ^ 63 }
     ensures taken { IfOk result (λ words. S.left input.old ≡ prepend_known (le32 words.0 ++ le32 words.1) (S.left input.new)) }
@@ -94,6 +96,7 @@ fn read_words<S: Source>(input: &mut S, at: u64) -> Result<(u32, u32), ReadEnd>
 }
 
 /// Judges a header: its operation, and then its body's length.
+#[inline]
 fn judge(number: u32, len: usize, at: u64) -> Result<Head, ReadEnd>
     ensures { Judges at number len result }
 {
@@ -114,6 +117,7 @@ fn judge(number: u32, len: usize, at: u64) -> Result<Head, ReadEnd>
 }
 
 /// Reads and judges a record's header.
+#[inline]
 fn read_head<S: Source>(input: &mut S, at: u64) -> Result<Head, ReadEnd>
     requires { at + HEADER_BYTES ≤ INPUT_MAX }
     ensures taken { IfOk result (TakesHead (S.left input.old) (S.left input.new)) }
@@ -129,6 +133,7 @@ fn read_head<S: Source>(input: &mut S, at: u64) -> Result<Head, ReadEnd>
 }
 
 /// Reads a call's body into the buffer.
+#[inline]
 fn read_body<'b, S: Source>(
     input: &mut S,
     at: u64,
@@ -146,6 +151,7 @@ fn read_body<'b, S: Source>(
     ensures short { IfErr result (EndsShort at len (S.left input.old) (S.left input.new)) }
     ensures cause { ReadCause (S.faults input.old) (S.faults input.new) result }
 {
+    buf.reach(len);
     let body = &mut buf.bytes_mut()[..len];
     match fill(input, at, body) {
         Ok(()) => Ok(Call::of(operation, body)),
@@ -193,6 +199,7 @@ pub fn read_start<S: Source>(input: &mut S) -> Result<(), ReadEnd>
 /// Reads the next record, of which `at` bytes of the session stand before. A call's tail borrows `buf`. After
 /// the closing record it sees that the input ends there. ReadFault comes only where the source's number of
 /// faults rose; every other refusal comes exactly by the bytes and `at`.
+#[inline]
 #[tactic(auto, using(crate::proofs::Lengths::lengths))]
 pub fn read_call<'b, S: Source>(
     input: &mut S,

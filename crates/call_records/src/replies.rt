@@ -59,6 +59,7 @@ fn fill_words(words: &[u32], into: &mut [u8; 64]) -> usize
 }
 
 /// Writes three words, and then the bytes.
+#[inline(never)]
 #[tactic(auto, using(crate::proofs::Sending::three_then, crate::proofs::Sending::three_stop))]
 fn write_after_words<O: Sink>(
     first: u32,
@@ -77,6 +78,7 @@ fn write_after_words<O: Sink>(
 }
 
 /// Writes an active attribute or uniform: three words, two words, and the name.
+#[inline(never)]
 #[tactic(auto, using(crate::proofs::Sending::two_then, crate::proofs::Sending::two_stop))]
 fn write_active<O: Sink>(
     raised: u32,
@@ -98,6 +100,7 @@ fn write_active<O: Sink>(
 
 /// Writes a reply's bytes: the code raised, the value's tag, and the value (this project's own format). Failed
 /// comes only where the sink's number of faults rose; then a prefix of the bytes was written.
+#[inline(always)]
 #[tactic(auto, using(crate::proofs::Sending::two_whole))]
 pub fn write_reply<O: Sink>(reply: &Reply, out: &mut O) -> Result<(), Failed>
     ensures bytes { Sends (O.held out.old) (O.held out.new) result (reply_encoding reply.now) }

@@ -72,9 +72,11 @@ abbrev pub command_at : Bool → List ℕ → ℕ → ℕ
 command_at false begun taken = START_BYTES
 command_at true begun taken = taken - length begun
 
--- what a decoder keeps of what it has taken: room for the longest command, and in it what was begun
-pub record IsDecoder (started : Bool) (items : List ℕ) (held taken : ℕ) : Type 0 where
-  pub room : length items ≡ COMMAND_MAX
-  pub within : held ≤ COMMAND_MAX
+-- what a decoder keeps of what it has taken: room for the longest command, the bytes of it that were reached, and in them
+-- what was begun
+pub record IsDecoder (started : Bool) (items : List ℕ) (capacity held taken : ℕ) : Type 0 where
+  pub room : COMMAND_MAX ≤ capacity
+  pub reached : length items ≤ COMMAND_MAX
+  pub within : held ≤ length items
   pub part : IsPart started (take held items)
   pub counted : IsCounted started (take held items) taken

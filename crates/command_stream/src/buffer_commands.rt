@@ -54,6 +54,7 @@ impl BufferOperation {
     ];
 
     /// The operation's row of the table.
+    #[inline(always)]
     pub fn row(self) -> Row
         ensures { IsRow result (buffer_row self) }
     {
@@ -77,6 +78,7 @@ impl BufferOperation {
     }
 
     /// The operation of this number; None exactly where there is none.
+    #[inline(always)]
     #[tactic(auto, unfolding(crate::specs::BufferCommands::buffer_numbered))]
     pub fn numbered(n: u32) -> Option<Self>
         ensures found { result ≡ buffer_numbered n }
@@ -90,6 +92,7 @@ impl BufferOperation {
 }
 
 /// The command of an operation with this body.
+#[inline(always)]
 pub fn buffer_command(operation: BufferOperation, body: &[u8]) -> BufferCommand<'_>
     requires { allows (Buffer operation) (length body.now) ≡ true }
     ensures operation { (buffer_parts result).operation ≡ Buffer operation }
@@ -116,6 +119,7 @@ pub fn buffer_command(operation: BufferOperation, body: &[u8]) -> BufferCommand<
 }
 
 /// Writes a command's header and body; its bytes are not copied.
+#[inline(always)]
 pub fn write_buffer_command<S: Sink>(c: &BufferCommand<'_>, stream: &mut S) -> Result<(), Failed>
     requires { length (Fields.body (buffer_parts c.now)) ≤ body_max }
     ensures bytes { Sends (S.held stream.old) (S.held stream.new) result (encoding_of (buffer_parts c.now)) }

@@ -17,6 +17,7 @@ pub enum Command<'a> {
 }
 
 /// The command of an operation with this body.
+#[inline(always)]
 pub fn command_of(operation: Operation, body: &[u8]) -> Command<'_>
     requires { allows operation (length body.now) ≡ true }
     ensures operation { operation_of result ≡ operation }

@@ -8,6 +8,7 @@ ghost use Rattle.command_stream.specs.DecoderState.{command_at};
 use crate::bad::Bad;
 use crate::command::{Command, command_of};
 use crate::operation::{HEADER_BYTES, START_BYTES};
+use crate::room::reach;
 use crate::taking::{COMMAND_MAX, Taken, take_in};
 use gl_numbers::Memory;
 use std::alloc::Global;
@@ -25,22 +26,24 @@ pub struct Decoder {
 
 impl Model for Decoder {
     ghost use Rattle.std.specs.Prelude.{take};
+    ghost use Rattle.std.specs.Vec.{vec_capacity};
     ghost use Rattle.command_stream.specs.DecoderState.{DecoderState, IsDecoder};
 
     ghost Value = { DecoderState };
 
     ghost view = { λ d. record { started = d.started; begun = take d.held d.bytes.items; taken = d.taken } };
 
-    ghost invariant = { λ d. IsDecoder d.started d.bytes.items d.held d.taken };
+    ghost invariant = { λ d. IsDecoder d.started d.bytes.items (vec_capacity d.bytes) d.held d.taken };
 }
 
 impl Decoder {
-    /// A decoder that has taken nothing, with a buffer for the longest command; Memory where memory runs out.
+    /// A decoder that has taken nothing, with room for the longest command; Memory where memory runs out.
     pub fn new(alloc: Global) -> Result<Self, Memory>
         ensures { IfOk result (λ decoder. decoder ≡ record { started = false; begun = []; taken = 0 }) }
     {
-        match vec![in alloc; 0; COMMAND_MAX] {
-            Ok(bytes) => Ok(Decoder {
+        let mut bytes = Vec::new(alloc);
+        match bytes.reserve_exact(COMMAND_MAX) {
+            Ok(()) => Ok(Decoder {
                 bytes,
                 held: 0,
                 started: false,
@@ -78,6 +81,7 @@ impl Decoder {
         ensures* after { sem 𝓛 (follows_so the_row the_row self.entry.ghost_name none (λ _ _. ⊤)
             (λ new. Feeds self.old piece.now new result)) }
     {
+        reach(&mut self.bytes, self.held, piece);
         match take_in(self.bytes.as_mut_slice(), self.started, self.held, piece) {
             Taken::OtherStart => Err(Bad::Version),
             Taken::OtherCommand => Err(Bad::Command(self.command_at())),

@@ -10,6 +10,7 @@ mod command;
 mod decoder;
 mod object_commands;
 mod operation;
+mod room;
 mod row;
 mod taking;
 mod write;

@@ -35,6 +35,7 @@ impl ObjectOperation {
     const ALL: [ObjectOperation; 2] = [ObjectOperation::MakeBuffer, ObjectOperation::DropBuffer];
 
     /// The operation's row of the table.
+    #[inline(always)]
     pub fn row(self) -> Row
         ensures { IsRow result (object_row self) }
     {
@@ -53,6 +54,7 @@ impl ObjectOperation {
     }
 
     /// The operation of this number; None exactly where there is none.
+    #[inline(always)]
     #[tactic(auto, unfolding(crate::specs::ObjectCommands::object_numbered))]
     pub fn numbered(n: u32) -> Option<Self>
         ensures found { result ≡ object_numbered n }
@@ -66,6 +68,7 @@ impl ObjectOperation {
 }
 
 /// The command of an operation with this body.
+#[inline(always)]
 pub fn object_command(operation: ObjectOperation, body: &[u8]) -> ObjectCommand
     requires { allows (Object operation) (length body.now) ≡ true }
     ensures operation { (object_parts result).operation ≡ Object operation }
@@ -80,6 +83,7 @@ pub fn object_command(operation: ObjectOperation, body: &[u8]) -> ObjectCommand
 }
 
 /// Writes a command's header and body.
+#[inline(always)]
 pub fn write_object_command<S: Sink>(c: &ObjectCommand, stream: &mut S) -> Result<(), Failed>
     ensures bytes { Sends (S.held stream.old) (S.held stream.new) result (encoding_of (object_parts c.now)) }
     ensures cause { HasCause (S.faults stream.old) (S.faults stream.new) result }

@@ -18,6 +18,7 @@ pub struct Row {
 
 impl Row {
     /// Whether a body may have this many bytes: the fields and such a tail, at most `BODY_MAX` in all.
+    #[inline(always)]
     pub fn allows(self, len: u32) -> bool
         ensures { result ≡ nat_le len body_max && has_tail self.tail self.field_bytes len }
     {

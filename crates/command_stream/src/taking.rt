@@ -1,4 +1,4 @@
-ghost use Rattle.std.specs.Prelude.{◌≡◌, ◌+◌, ◌<◌, ◌≤◌, ◌++◌, length, take, true};
+ghost use Rattle.std.specs.Prelude.{◌≡◌, ◌+◌, ◌<◌, ◌≤◌, ◌++◌, min, length, take, true};
 ghost use Rattle.command_stream.specs.DecoderState.{IsPart};
 ghost use Rattle.command_stream.specs.Taking.{AreFirst, Judges, StartsIn, TakesIn};
 
@@ -42,6 +42,7 @@ pub enum Taken {
 }
 
 /// Copies the piece after the first `held` bytes.
+#[inline(always)]
 pub fn hold(bytes: &mut [u8], held: usize, piece: &[u8])
     requires { held + length piece.now ≤ length bytes.old }
     ensures size { length bytes.new ≡ length bytes.old }
@@ -51,6 +52,7 @@ pub fn hold(bytes: &mut [u8], held: usize, piece: &[u8])
 }
 
 /// The first eight bytes of what was begun and the piece after it; None where there are fewer.
+#[inline]
 fn first_eight(begun: &[u8], piece: &[u8]) -> Option<[u8; 8]>
     ensures { AreFirst begun.now piece.now result }
 {
@@ -69,6 +71,7 @@ fn first_eight(begun: &[u8], piece: &[u8]) -> Option<[u8; 8]>
 }
 
 /// The operation and the body's length of a command's header; None where it is refused.
+#[inline]
 fn judge(header: &[u8; 8]) -> Option<(Operation, u32)>
     ensures { Judges header.now result }
 {
@@ -96,9 +99,10 @@ fn look_for_start(begun: &[u8], piece: &[u8]) -> Start
 }
 
 /// Takes the piece after the first `held` bytes of a command, up to the command's end.
+#[inline]
 fn take_command(bytes: &mut [u8], held: usize, piece: &[u8]) -> Taken
-    requires room { length bytes.old ≡ COMMAND_MAX }
-    requires within { held ≤ COMMAND_MAX }
+    requires room { min (held + length piece.now) COMMAND_MAX ≤ length bytes.old }
+    requires within { held ≤ length bytes.old }
     requires begun { IsPart true (take held bytes.old) }
     ensures { TakesIn true bytes.old held piece.now bytes.new result }
 {
@@ -131,9 +135,10 @@ fn take_command(bytes: &mut [u8], held: usize, piece: &[u8]) -> Taken
 
 /// Takes the piece after the first `held` bytes of the stream's header or else of a command, up to the end of
 /// the first whole command.
+#[inline]
 pub fn take_in(bytes: &mut [u8], started: bool, held: usize, piece: &[u8]) -> Taken
-    requires room { length bytes.old ≡ COMMAND_MAX }
-    requires within { held ≤ COMMAND_MAX }
+    requires room { min (held + length piece.now) COMMAND_MAX ≤ length bytes.old }
+    requires within { held ≤ length bytes.old }
     requires begun { IsPart started (take held bytes.old) }
     ensures { TakesIn started bytes.old held piece.now bytes.new result }
 {

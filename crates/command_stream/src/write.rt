@@ -90,6 +90,7 @@ pub fn write_with_bytes<S: Sink>(
 }
 
 /// Writes a command's header and body; after Failed a prefix of them was appended. Its bytes are not copied.
+#[inline(always)]
 pub fn write_command<S: Sink>(c: &Command<'_>, stream: &mut S) -> Result<(), Failed>
     requires { Allowed c.now }
     ensures bytes { Sends (S.held stream.old) (S.held stream.new) result (command_encoding c.now) }

@@ -10,6 +10,7 @@ use command_stream::{Command, write_command};
 use wire_io::{Failed, Sink};
 
 /// Sends one command.
+#[inline(always)]
 #[tactic(auto, using(crate::proofs::SentBytes::sends_one))]
 fn send_one<S: Sink>(command: &Command<'_>, stream: &mut S) -> Result<(), Failed>
     requires { Allowed command.now }
@@ -20,6 +21,7 @@ fn send_one<S: Sink>(command: &Command<'_>, stream: &mut S) -> Result<(), Failed
 }
 
 /// Sends two commands.
+#[inline(always)]
 #[tactic(auto, using(wire_io::proofs::Known::sends_then, wire_io::proofs::Known::sends_stop))]
 fn send_two<S: Sink>(
     first: &Command<'_>,
@@ -38,6 +40,7 @@ fn send_two<S: Sink>(
 }
 
 /// Sends what a call is to send, in order. After Failed a prefix of it was sent.
+#[inline(always)]
 #[tactic(auto, using(crate::proofs::SentBytes::nothing_sent))]
 pub(crate) fn send<S: Sink>(outgoing: &Outgoing<'_>, stream: &mut S) -> Result<(), Failed>
     requires { CanSend outgoing.now }

@@ -22,6 +22,7 @@ impl<'a> Model for Fields<'a> {
 
 impl<'a> Fields<'a> {
     /// The fields of this body, all of them still to be read.
+    #[inline]
     pub fn new(body: &'a [u8]) -> Self
         ensures { result ≡ body.now }
     {
@@ -29,6 +30,7 @@ impl<'a> Fields<'a> {
     }
 
     /// Reads a word: a field of the letter u, h, b or f.
+    #[inline]
     pub fn word(&mut self) -> u32
         requires { 4 ≤ length self.old }
         ensures bytes { self.old ≡ le32 result ++ self.new }
@@ -40,6 +42,7 @@ impl<'a> Fields<'a> {
     }
 
     /// Reads a number of 32 bits with a sign: a field of the letter i.
+    #[inline]
     pub fn int(&mut self) -> i32
         requires { 4 ≤ length self.old }
         ensures bytes { self.old ≡ le32_signed result ++ self.new }
@@ -52,6 +55,7 @@ impl<'a> Fields<'a> {
     }
 
     /// Reads a number of 64 bits with a sign: a field of the letter l.
+    #[inline]
     pub fn long(&mut self) -> i64
         requires { 8 ≤ length self.old }
         ensures bytes { self.old ≡ le64 result ++ self.new }
@@ -64,6 +68,7 @@ impl<'a> Fields<'a> {
     }
 
     /// Reads the tail: all that is left.
+    #[inline]
     pub fn tail(&mut self) -> &'a [u8]
         ensures bytes { self.old ≡ result.now ++ self.new }
         ensures end { self.new ≡ [] }

@@ -81,6 +81,7 @@ impl Letter {
 }
 
 /// The bytes of fields of these letters in all.
+#[inline(always)]
 fn size_of(letters: &[Letter]) -> usize
     requires { fields_size letters.now < 2 ^ 32 }
     ensures { result ≡ fields_size letters.now }
@@ -94,6 +95,7 @@ fn size_of(letters: &[Letter]) -> usize
 
 impl Row {
     /// A row of this number, name, letters and tail.
+    #[inline(always)]
     pub fn new(number: u32, name: &'static str, letters: &'static [Letter], tail: Tail) -> Self
         requires { fields_size letters.now < 2 ^ 32 }
         ensures { result ≡ record { number = number; name = name.now; letters = letters.now; tail = tail } }
@@ -108,6 +110,7 @@ impl Row {
     }
 
     /// The number of the operation.
+    #[inline(always)]
     pub fn number(&self) -> u32
         ensures { result ≡ self.now.number }
     {
@@ -122,6 +125,7 @@ impl Row {
     }
 
     /// The letters of the fields, in order.
+    #[inline(always)]
     pub fn letters(&self) -> &'static [Letter]
         ensures { result.now ≡ self.now.letters }
     {
@@ -129,6 +133,7 @@ impl Row {
     }
 
     /// What follows the fields.
+    #[inline(always)]
     pub fn tail(&self) -> Tail
         ensures { result ≡ self.now.tail }
     {
@@ -143,6 +148,7 @@ impl Row {
     }
 
     /// Whether a body of `len` bytes is one of this row's, where a body has at most `most` bytes.
+    #[inline(always)]
     pub fn allows(&self, most: usize, len: usize) -> bool
         ensures { result ≡ allows most self.now len }
     {

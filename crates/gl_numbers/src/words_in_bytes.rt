@@ -4,6 +4,7 @@ ghost use Rattle.gl_numbers.specs.Bytes.{le32, le64, IsLong};
 ghost use Rattle.gl_numbers.specs.Fields.{le32_signed};
 
 /// The word whose four bytes, the low one first, begin these bytes.
+#[inline]
 #[tactic(auto, unfolding(crate::specs::Bytes::le32))]
 pub fn u32_at(bytes: &[u8]) -> u32
     requires { 4 ≤ length bytes.now }
@@ -13,6 +14,7 @@ pub fn u32_at(bytes: &[u8]) -> u32
 }
 
 /// The number of 32 bits with a sign whose four bytes, the low one first, begin these bytes.
+#[inline]
 #[tactic(auto, unfolding(crate::specs::Fields::le32_signed))]
 pub fn i32_at(bytes: &[u8]) -> i32
     requires { 4 ≤ length bytes.now }
@@ -23,6 +25,7 @@ pub fn i32_at(bytes: &[u8]) -> i32
 }
 
 /// The number of 64 bits with a sign whose eight bytes, the low one first, begin these bytes.
+#[inline]
 #[tactic(auto, unfolding(crate::specs::Bytes::le64))]
 pub fn i64_at(bytes: &[u8]) -> i64
     requires { 8 ≤ length bytes.now }
@@ -35,6 +38,7 @@ pub fn i64_at(bytes: &[u8]) -> i64
 }
 
 /// A word's four bytes, the low one first.
+#[inline]
 #[tactic(auto, unfolding(crate::specs::Bytes::le32))]
 pub fn word_bytes(a: u32) -> [u8; 4]
     ensures { result ≡ le32 a }
@@ -43,6 +47,7 @@ pub fn word_bytes(a: u32) -> [u8; 4]
 }
 
 /// The four bytes of a number of 32 bits with a sign, the low one first.
+#[inline]
 #[tactic(auto, unfolding(crate::specs::Fields::le32_signed))]
 pub fn int_bytes(number: i32) -> [u8; 4]
     ensures { result ≡ le32_signed number }
@@ -51,6 +56,7 @@ pub fn int_bytes(number: i32) -> [u8; 4]
 }
 
 /// The eight bytes of a number of 64 bits with a sign, the low one first.
+#[inline]
 #[tactic(auto, unfolding(crate::specs::Bytes::le64))]
 pub fn long_bytes(number: i64) -> [u8; 8]
     ensures { result ≡ le64 number }
@@ -59,6 +65,7 @@ pub fn long_bytes(number: i64) -> [u8; 8]
 }
 
 /// Two words' bytes.
+#[inline]
 #[tactic(auto, unfolding(crate::specs::Bytes::le32))]
 pub fn two_words(a: u32, b: u32) -> [u8; 8]
     ensures { result ≡ le32 a ++ le32 b }
@@ -69,6 +76,7 @@ pub fn two_words(a: u32, b: u32) -> [u8; 8]
 }
 
 /// Three words' bytes.
+#[inline]
 #[tactic(auto, unfolding(crate::specs::Bytes::le32))]
 pub fn three_words(a: u32, b: u32, c: u32) -> [u8; 12]
     ensures { result ≡ le32 a ++ (le32 b ++ le32 c) }
@@ -80,6 +88,7 @@ pub fn three_words(a: u32, b: u32, c: u32) -> [u8; 12]
 }
 
 /// Four words' bytes.
+#[inline]
 #[tactic(auto, unfolding(crate::specs::Bytes::le32))]
 pub fn four_words(a: u32, b: u32, c: u32, d: u32) -> [u8; 16]
     ensures { result ≡ le32 a ++ (le32 b ++ (le32 c ++ le32 d)) }

@@ -44,6 +44,27 @@ impl<'a, R: Files + Drop> LazyFile<'a, R> {
             unsent: Buffer::new(),
         }
     }
+
+    /// Makes the file, and writes the piece to it.
+    #[cold]
+    #[inline(never)]
+    fn write_first(&mut self, bytes: &[u8]) -> Result<usize, Failed>
+        requires closed { self.old.is_open ≡ false }
+        requires some { 0 < length bytes.now }
+        ensures bytes { Writes None None result bytes.now }
+        ensures cause { HasCause self.old.unsent.faults self.new.unsent.faults result }
+        ensures opens { OnOk result (self.new.is_open ≡ true) }
+        ensures path { self.new.path ≡ self.old.path }
+        ensures short { self.new.is_open ≡ true → KeepsShort self.old.unsent self.new.unsent result bytes.now }
+        ensures counted { CountsErrors self.old.unsent.faults self.new.unsent.faults result }
+    {
+        let Ok(mut file) = fs::create(&self.files, self.path) else {
+            return Err(self.unsent.fault());
+        };
+        let result = self.unsent.write_to(&mut file, bytes);
+        self.file = Some(file);
+        result
+    }
 }
 
 impl<'a, R: Files + Drop> Sink for LazyFile<'a, R> {
@@ -53,6 +74,7 @@ impl<'a, R: Files + Drop> Sink for LazyFile<'a, R> {
 
     ghost handed_on = { λ s. s.unsent.waiting ≡ [] };
 
+    #[inline(always)]
     fn write(&mut self, bytes: &[u8]) -> Result<usize, Failed>
         ensures bytes { Writes None None result bytes.now }
         ensures cause { HasCause self.old.unsent.faults self.new.unsent.faults result }
@@ -65,12 +87,10 @@ impl<'a, R: Files + Drop> Sink for LazyFile<'a, R> {
         if bytes.is_empty() {
             return Ok(0);
         }
-        let Some(mut file) = opened(self.file.take(), &self.files, self.path) else {
-            return Err(self.unsent.fault());
-        };
-        let result = self.unsent.write_to(&mut file, bytes);
-        self.file = Some(file);
-        result
+        match &mut self.file {
+            Some(file) => self.unsent.write_to(file, bytes),
+            None => self.write_first(bytes),
+        }
     }
 
     fn flush(&mut self) -> Result<(), Failed>

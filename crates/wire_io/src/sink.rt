@@ -30,8 +30,29 @@ pub trait Sink {
         ensures handed_on { OnOk result (handed_on self.new) };
 }
 
-/// Writes until all of the bytes are taken; after Failed a prefix of them was appended.
+/// Writes until all of the bytes are taken, which most sinks do at once; after Failed a prefix of them was appended.
+#[inline(always)]
+#[tactic(auto, using(crate::proofs::Known::sent_rest))]
 pub fn write_all<K: Sink>(bytes: &[u8], out: &mut K) -> Result<(), Failed>
+    ensures bytes { Sends (K.held out.old) (K.held out.new) result bytes.now }
+    ensures cause { HasCause (K.faults out.old) (K.faults out.new) result }
+{
+    if bytes.is_empty() {
+        return Ok(());
+    }
+    let Ok(n) = out.write(bytes) else {
+        return Err(Failed);
+    };
+    if n == bytes.len() {
+        return Ok(());
+    }
+    write_rest(&bytes[n..], out)
+}
+
+/// Writes what a first write left, piece by piece.
+#[cold]
+#[inline(never)]
+fn write_rest<K: Sink>(bytes: &[u8], out: &mut K) -> Result<(), Failed>
     ensures bytes { Sends (K.held out.old) (K.held out.new) result bytes.now }
     ensures cause { HasCause (K.faults out.old) (K.faults out.new) result }
 {

@@ -20,7 +20,30 @@ pub trait Source {
 }
 
 /// Reads until `into` is full or the end comes, and returns how many bytes were taken.
+#[inline(always)]
 pub fn read_full<S: Source>(input: &mut S, into: &mut [u8]) -> Result<usize, Failed>
+    ensures bytes { Fills (S.left input.old) (S.left input.new) result into.new }
+    ensures cause { HasCause (S.faults input.old) (S.faults input.new) result }
+{
+    if into.is_empty() {
+        return Ok(0);
+    }
+    let Ok(n) = input.read(into) else {
+        return Err(Failed);
+    };
+    if n == 0 || n == into.len() {
+        return Ok(n);
+    }
+    match read_rest(input, &mut into[n..]) {
+        Ok(more) => Ok(n + more),
+        Err(failed) => Err(failed),
+    }
+}
+
+/// Reads what a first read left, piece by piece.
+#[cold]
+#[inline(never)]
+fn read_rest<S: Source>(input: &mut S, into: &mut [u8]) -> Result<usize, Failed>
     ensures bytes { Fills (S.left input.old) (S.left input.new) result into.new }
     ensures cause { HasCause (S.faults input.old) (S.faults input.new) result }
 {

@@ -45,6 +45,7 @@ impl<R: Read + Drop> Source for StdSource<R> {
 
     ghost faults = { λ s. s.faults };
 
+    #[inline(always)]
     fn read(&mut self, into: &mut [u8]) -> Result<usize, Failed>
         ensures bytes { Reads None None result into.new }
         ensures cause { HasCause self.old.faults self.new.faults result }
@@ -92,6 +93,7 @@ impl<W: Write + Drop> Sink for StdSink<W> {
 
     ghost handed_on = { λ s. s.waiting ≡ [] };
 
+    #[inline(always)]
     fn write(&mut self, bytes: &[u8]) -> Result<usize, Failed>
         ensures bytes { Writes None None result bytes.now }
         ensures cause { HasCause self.old.faults self.new.faults result }

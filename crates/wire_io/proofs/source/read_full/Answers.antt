@@ -1,12 +1,17 @@
--- One more read fills the next part of the piece.
-use Rattle.std.proofs.Common.{arith}
+-- What a first read gave, and then the rest.
+use Rattle.std.proofs.Common.{◌++◌, take, arith}
 use Rattle.std.proofs.lemmas.Grind.{common_steps}
-use Rattle.wire_io.proofs.Known.{filled_more}
+use Rattle.wire_io.proofs.Known.{filled_more, taken_twice}
 use Rattle.wire_io.proofs.source.read_full.Goals as goal
 
-pub loop-filled-preserved : goal.loop-filled-preserved
-loop-filled-preserved g c = record {
-  within = grind (arith, common_steps);
-  bytes = filled_more _ _ _ _ _ _ _ _ c.loop-filled.invariant.within c.in_ok-n.ensures.bytes.0 c.loop-filled.invariant.bytes c.in_ok-n.ensures.bytes.1;
-  later = grind (arith, common_steps);
-}
+pub returns-in-Ok-read_rest-clause-bytes : goal.returns-in-Ok-read_rest-clause-bytes
+returns-in-Ok-read_rest-clause-bytes g c =
+    (grind (arith, common_steps),
+    filled_more _ _ _ _ _ _ _ _ c.in-Ok.ensures.bytes.0 c.in-Ok-read_rest.ensures.bytes.0 c.in-Ok.ensures.bytes.1 c.in-Ok-read_rest.ensures.bytes.1,
+    grind (arith, common_steps))
+
+pub returns-in-Err-clause-bytes : goal.returns-in-Err-clause-bytes
+returns-in-Err-clause-bytes g c =
+    (take c.in-Ok.n c.read.new.into ++ c.in-Err.ensures.bytes.0,
+    grind (arith, common_steps),
+    taken_twice _ _ _ _ _ c.in-Ok.ensures.bytes.1 c.in-Err.ensures.bytes.2)

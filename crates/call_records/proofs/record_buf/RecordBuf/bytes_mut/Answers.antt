@@ -11,5 +11,5 @@ returns c =
         refl,
         λ w. ap (λ n. take n (w ++ drop (length w) c.self.inside.bytes.items)) count ∙ ap (λ (old : List ℕ). take (length c.args.self.now) (w ++ drop (length w) old)) same,
       ),
-      record { writes_back = tt; value = lent ∙ same; len = ap length lent ∙ c.self.invariant },
+      record { writes_back = tt; value = lent ∙ same; len = ap length (lent ∙ same) },
     )
