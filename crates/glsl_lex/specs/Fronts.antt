@@ -13,7 +13,8 @@ with_front front (suc n) = front + suc n
 
 abbrev pub signed_len : List ℕ → ℕ
 signed_len [] = 0
-signed_len (b ∷ text) = if b == 43 || b == 45 then with_front 2 (prefix_len is_digit text) else with_front 1 (prefix_len is_digit (b ∷ text))
+signed_len (b ∷ text) =
+    if b == 43 || b == 45 then with_front 2 (prefix_len is_digit text) else with_front 1 (prefix_len is_digit (b ∷ text))
 
 -- how many bytes the exponent at the front has
 unfoldable pub exponent_len : List ℕ → ℕ
@@ -74,7 +75,8 @@ punctuator_len (a ∷ b ∷ c ∷ text) = if c == 61 && (a == b && is_among (cod
 
 -- the name at the front
 abbrev pub name_at : List ℕ → Class × ℕ
-name_at text = (if is_keyword (take (prefix_len is_name_character text) text) then Keyword else Identifier, prefix_len is_name_character text)
+name_at text =
+    (if is_keyword (take (prefix_len is_name_character text) text) then Keyword else Identifier, prefix_len is_name_character text)
 
 abbrev pub mark_of : ℕ → ℕ → Option (Class × ℕ)
 mark_of b zero = if b == 35 then Some (Hash, 1) else None

@@ -85,7 +85,8 @@ abbrev pub at_level : ℕ → Option Operator → Option Operator
 at_level level None = None
 at_level level (Some op) = if level_of op == level then Some op else None
 
--- Operands joined from the left by operators of a level, behind one with a value and so many tokens; the first k tokens belong to an operand already.
+-- Operands joined from the left by operators of a level, behind one with a value and so many tokens; the first k tokens
+-- belong to an operand already.
 unfoldable pub chain_from : (List PlainToken → Parsed) → ℕ → Option ℤ → ℕ → ℕ → List PlainToken → Parsed
 chain_from operand level v count k [] = Read v count
 chain_from operand level v count (suc k) (t ∷ rest) = chain_from operand level v count k rest

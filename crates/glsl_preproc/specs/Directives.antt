@@ -64,7 +64,9 @@ with_parameters name rest (Some found) = Some (record { name = name; parameters 
 
 abbrev pub macro_of : List ℕ → List PlainToken → Option PlainMacro
 macro_of name [] = Some (record { name = name; parameters = None; body = [] })
-macro_of name (t ∷ rest) = if is_params t.class then with_parameters name rest (parameters_at rest) else Some (record { name = name; parameters = None; body = t ∷ rest })
+macro_of name (t ∷ rest) =
+    if is_params t.class then with_parameters name rest (parameters_at rest)
+    else Some (record { name = name; parameters = None; body = t ∷ rest })
 
 -- the macro that stands behind `#define`
 unfoldable pub definition_of : List PlainToken → Option PlainMacro
@@ -85,7 +87,8 @@ unfoldable pub after_define : List PlainMacro → List PlainToken → Option (Li
 after_define macros list = with_macro macros (definition_of list)
 
 unfoldable pub after_undef : List PlainMacro → List PlainToken → Option (List PlainMacro)
-after_undef macros (t ∷ []) = if is_name_token t && not (is_reserved t.text) then Some (filter (λ m. not (bytes_eq m.name t.text)) macros) else None
+after_undef macros (t ∷ []) =
+    if is_name_token t && not (is_reserved t.text) then Some (filter (λ m. not (bytes_eq m.name t.text)) macros) else None
 after_undef macros _ = None
 
 -- whether the one name behind an `#ifdef` is defined
@@ -104,7 +107,9 @@ is_version _ = false
 
 -- `#extension N : B`, which asks for no extension that is not there
 abbrev pub is_offered : List ℕ → List ℕ → Bool
-is_offered name behavior = bytes_eq behavior (codes "warn") || bytes_eq behavior (codes "disable") || (bytes_eq behavior (codes "enable") && not (bytes_eq name (codes "all")))
+is_offered name behavior =
+    bytes_eq behavior (codes "warn") || bytes_eq behavior (codes "disable")
+    || (bytes_eq behavior (codes "enable") && not (bytes_eq name (codes "all")))
 
 unfoldable pub is_extension : List PlainToken → Bool
 is_extension (name ∷ colon ∷ behavior ∷ []) = is_name_token name && is_text (codes ":") colon && is_offered name.text behavior.text

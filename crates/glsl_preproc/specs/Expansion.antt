@@ -71,7 +71,8 @@ unless fails s line = if fails then failing s line else Next s
 
 -- a conditional begins, whose first part is read or not
 abbrev pub opened : State → ℕ → Bool → Step
-opened s line reads = Next (record s { conditionals = record { part = if reads then Taken else Waiting; closing = false; line = line } ∷ s.conditionals })
+opened s line reads =
+    Next (record s { conditionals = record { part = if reads then Taken else Waiting; closing = false; line = line } ∷ s.conditionals })
 
 abbrev pub opened_if : State → ℕ → Judged → Step
 opened_if s line Yes = opened s line true

@@ -84,5 +84,6 @@ constant_macro name body = record { name = name; parameters = None; body = body 
 unfoldable pub first_macros : List PlainMacro
 first_macros =
     constant_macro (codes "__LINE__") [] ∷ constant_macro (codes "__FILE__") (number_token (codes "0") ∷ [])
-    ∷ constant_macro (codes "__VERSION__") (number_token (codes "100") ∷ []) ∷ constant_macro (codes "GL_ES") (number_token (codes "1") ∷ [])
+    ∷ constant_macro (codes "__VERSION__") (number_token (codes "100") ∷ [])
+    ∷ constant_macro (codes "GL_ES") (number_token (codes "1") ∷ [])
     ∷ constant_macro (codes "GL_FRAGMENT_PRECISION_HIGH") (number_token (codes "1") ∷ []) ∷ []

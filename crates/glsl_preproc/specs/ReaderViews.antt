@@ -38,7 +38,8 @@ Finishes o new (Err (pre.Directive line)) = o ≡ ended new (Failed line)
 Finishes o new (Err pre.TooLong) = 131072 < length o.tokens
 Finishes o new (Err pre.Memory) = Unit {0}
 
--- The answer is the expansion's, unless memory is wanting. An expansion of at most 131,072 tokens up to its end is answered, and a longer one is too long.
+-- The answer is the expansion's, unless memory is wanting. An expansion of at most 131,072 tokens up to its end is answered,
+-- and a longer one is too long.
 abbrev pub Answers : List PlainToken → Result (Vec Token Global) Pre → Type 0
 Answers source (Ok v) = Expansion source (plain_tokens v.items) Whole × (length v.items ≤ 131072)
 Answers source (Err (pre.Directive line)) = (done : List PlainToken) × Expansion source done (Failed line) × (length done ≤ 131072)

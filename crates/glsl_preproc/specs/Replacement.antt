@@ -49,7 +49,8 @@ abbrev pub fits_parameters : List (List ℕ) → List (List PlainToken) → Bool
 fits_parameters [] arguments = is_one_empty arguments
 fits_parameters (p ∷ parameters) arguments = length (p ∷ parameters) == length arguments
 
--- what a token is: kept as it is; `__LINE__`; the name of a macro without parameters; a call with its arguments, which takes so many tokens behind the name; or a call with another number of arguments
+-- what a token is: kept as it is; `__LINE__`; the name of a macro without parameters; a call with its arguments, which takes
+-- so many tokens behind the name; or a call with another number of arguments
 pub data Use : Type 0 where
   Kept : Use
   LineNumber : Use
@@ -101,10 +102,12 @@ argument_or (Some tokens) t = tokens
 -- a replacement with the arguments in the places of the parameters
 unfoldable pub substituted : List (List ℕ) → List (List PlainToken) → ℕ → List PlainToken → List PlainToken
 substituted parameters arguments line [] = []
-substituted parameters arguments line (t ∷ body) = at_line line (argument_or (argument_of parameters arguments t.text) t) ++ substituted parameters arguments line body
+substituted parameters arguments line (t ∷ body) =
+    at_line line (argument_or (argument_of parameters arguments t.text) t) ++ substituted parameters arguments line body
 
 -- each argument expanded as a list of its own, behind those that are, where `below` expands one; or the end of the first that is not whole
-unfoldable pub expanded_arguments : (List PlainToken → Outcome) → List (List PlainToken) → List (List PlainToken) → Result (List (List PlainToken)) End
+unfoldable pub expanded_arguments : (List PlainToken → Outcome) → List (List PlainToken) → List (List PlainToken)
+    → Result (List (List PlainToken)) End
 expanded_arguments below done [] = Ok done
 expanded_arguments below done (a ∷ arguments) = elim ((below a).end) [
   | Whole ↦ expanded_arguments below (done ++ (below a).tokens ∷ []) arguments
@@ -113,19 +116,25 @@ expanded_arguments below done (a ∷ arguments) = elim ((below a).end) [
 ]
 
 -- a call: its arguments are expanded first, and then the replacement with these in it, where the name is hidden too
-abbrev pub called_with : (List (List ℕ) → List PlainToken → List PlainToken → Outcome) → List (List ℕ) → List PlainToken → PlainToken → PlainMacro → List (List ℕ) → Result (List (List PlainToken)) End → Outcome
+abbrev pub called_with : (List (List ℕ) → List PlainToken → List PlainToken → Outcome) → List (List ℕ) → List PlainToken
+    → PlainToken → PlainMacro → List (List ℕ) → Result (List (List PlainToken)) End → Outcome
 called_with below hidden done t m parameters (Err end) = ended done end
-called_with below hidden done t m parameters (Ok arguments) = below (hidden ++ t.text ∷ []) done (substituted parameters arguments t.line m.body)
+called_with below hidden done t m parameters (Ok arguments) =
+    below (hidden ++ t.text ∷ []) done (substituted parameters arguments t.line m.body)
 
-abbrev pub call_outcome : (List (List ℕ) → List PlainToken → List PlainToken → Outcome) → List (List ℕ) → List PlainToken → PlainToken → PlainMacro → List (List ℕ) → List (List PlainToken) → Outcome
-call_outcome below hidden done t m parameters arguments = called_with below hidden done t m parameters (expanded_arguments (below hidden []) [] arguments)
+abbrev pub call_outcome : (List (List ℕ) → List PlainToken → List PlainToken → Outcome) → List (List ℕ) → List PlainToken
+    → PlainToken → PlainMacro → List (List ℕ) → List (List PlainToken) → Outcome
+call_outcome below hidden done t m parameters arguments =
+    called_with below hidden done t m parameters (expanded_arguments (below hidden []) [] arguments)
 
-abbrev pub object_outcome : (List (List ℕ) → List PlainToken → List PlainToken → Outcome) → List (List ℕ) → List PlainToken → PlainToken → PlainMacro → Outcome
+abbrev pub object_outcome : (List (List ℕ) → List PlainToken → List PlainToken → Outcome) → List (List ℕ) → List PlainToken
+    → PlainToken → PlainMacro → Outcome
 object_outcome below hidden done t m = below (hidden ++ t.text ∷ []) done (at_line t.line m.body)
 
 -- The expansion of a list, behind the tokens before it, where `below` expands behind some tokens a list with names
 -- hidden. The first k tokens belong to a call already.
-unfoldable pub list_from : (List (List ℕ) → List PlainToken → List PlainToken → Outcome) → List PlainMacro → List (List ℕ) → List PlainToken → ℕ → List PlainToken → Outcome
+unfoldable pub list_from : (List (List ℕ) → List PlainToken → List PlainToken → Outcome) → List PlainMacro → List (List ℕ)
+    → List PlainToken → ℕ → List PlainToken → Outcome
 list_from below macros hidden done k [] = ended done Whole
 list_from below macros hidden done (suc k) (t ∷ rest) = list_from below macros hidden done k rest
 list_from below macros hidden done zero (t ∷ rest) = elim (use_of macros hidden t rest) [

@@ -128,7 +128,8 @@ fn use_of_call<'a>(
     rest: &[Token],
 ) -> Result<Use<'a>, AllocError>
     requires { AreCounts brackets.now.counts.items (plain_tokens rest.now) }
-    ensures used { IfOk result (λ found. use_view found ≡ called (plain_macro m.now) (parameters_of m.now.parameters) (arguments_from [] [] 0 1 (plain_tokens rest.now))) }
+    ensures used { IfOk result (λ found. use_view found ≡ called (plain_macro m.now) (parameters_of m.now.parameters)
+        (arguments_from [] [] 0 1 (plain_tokens rest.now))) }
     ensures within { IfOk result (λ found. IsWithin (length rest.now + 1) found) }
 {
     if !brackets.may_close(rest) {

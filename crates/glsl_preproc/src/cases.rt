@@ -273,20 +273,32 @@ pub(crate) const EXPRESSIONS: [(&[u8], &[u8]); 62] = [
 
 /// A macro whose expansion has 131,072 tokens.
 pub(crate) const LONGEST: &[u8] =
-    b"#define a0 x\n#define a1 a0 a0\n#define a2 a1 a1\n#define a3 a2 a2\n#define a4 a3 a3\n#define a5 a4 a4\n#define a6 a5 a5\n#define a7 a6 a6\n#define a8 a7 a7\n#define a9 a8 a8\n#define a10 a9 a9\n#define a11 a10 a10\n#define a12 a11 a11\n#define a13 a12 a12\n#define a14 a13 a13\n#define a15 a14 a14\n#define a16 a15 a15\n#define a17 a16 a16\na17";
+    b"#define a0 x\n#define a1 a0 a0\n#define a2 a1 a1\n#define a3 a2 a2\n#define a4 a3 a3\n\
+      #define a5 a4 a4\n#define a6 a5 a5\n#define a7 a6 a6\n#define a8 a7 a7\n#define a9 a8 a8\n\
+      #define a10 a9 a9\n#define a11 a10 a10\n#define a12 a11 a11\n#define a13 a12 a12\n\
+      #define a14 a13 a13\n#define a15 a14 a14\n#define a16 a15 a15\n#define a17 a16 a16\na17";
 
 /// Sources of which a token more is asked: before, and after, a directive that fails.
 pub(crate) const LONGER: [(&[u8], &[u8]); 3] = [
     (
-        b"#define a0 x\n#define a1 a0 a0\n#define a2 a1 a1\n#define a3 a2 a2\n#define a4 a3 a3\n#define a5 a4 a4\n#define a6 a5 a5\n#define a7 a6 a6\n#define a8 a7 a7\n#define a9 a8 a8\n#define a10 a9 a9\n#define a11 a10 a10\n#define a12 a11 a11\n#define a13 a12 a12\n#define a14 a13 a13\n#define a15 a14 a14\n#define a16 a15 a15\n#define a17 a16 a16\na17 x",
+        b"#define a0 x\n#define a1 a0 a0\n#define a2 a1 a1\n#define a3 a2 a2\n#define a4 a3 a3\n\
+          #define a5 a4 a4\n#define a6 a5 a5\n#define a7 a6 a6\n#define a8 a7 a7\n#define a9 a8 a8\n\
+          #define a10 a9 a9\n#define a11 a10 a10\n#define a12 a11 a11\n#define a13 a12 a12\n\
+          #define a14 a13 a13\n#define a15 a14 a14\n#define a16 a15 a15\n#define a17 a16 a16\na17 x",
         b"T",
     ),
     (
-        b"#define a0 x\n#define a1 a0 a0\n#define a2 a1 a1\n#define a3 a2 a2\n#define a4 a3 a3\n#define a5 a4 a4\n#define a6 a5 a5\n#define a7 a6 a6\n#define a8 a7 a7\n#define a9 a8 a8\n#define a10 a9 a9\n#define a11 a10 a10\n#define a12 a11 a11\n#define a13 a12 a12\n#define a14 a13 a13\n#define a15 a14 a14\n#define a16 a15 a15\n#define a17 a16 a16\nx a17\n#error",
+        b"#define a0 x\n#define a1 a0 a0\n#define a2 a1 a1\n#define a3 a2 a2\n#define a4 a3 a3\n\
+          #define a5 a4 a4\n#define a6 a5 a5\n#define a7 a6 a6\n#define a8 a7 a7\n#define a9 a8 a8\n\
+          #define a10 a9 a9\n#define a11 a10 a10\n#define a12 a11 a11\n#define a13 a12 a12\n\
+          #define a14 a13 a13\n#define a15 a14 a14\n#define a16 a15 a15\n#define a17 a16 a16\nx a17\n#error",
         b"T",
     ),
     (
-        b"#define a0 x\n#define a1 a0 a0\n#define a2 a1 a1\n#define a3 a2 a2\n#define a4 a3 a3\n#define a5 a4 a4\n#define a6 a5 a5\n#define a7 a6 a6\n#define a8 a7 a7\n#define a9 a8 a8\n#define a10 a9 a9\n#define a11 a10 a10\n#define a12 a11 a11\n#define a13 a12 a12\n#define a14 a13 a13\n#define a15 a14 a14\n#define a16 a15 a15\n#define a17 a16 a16\n#error\na17 x",
+        b"#define a0 x\n#define a1 a0 a0\n#define a2 a1 a1\n#define a3 a2 a2\n#define a4 a3 a3\n\
+          #define a5 a4 a4\n#define a6 a5 a5\n#define a7 a6 a6\n#define a8 a7 a7\n#define a9 a8 a8\n\
+          #define a10 a9 a9\n#define a11 a10 a10\n#define a12 a11 a11\n#define a13 a12 a12\n\
+          #define a14 a13 a13\n#define a15 a14 a14\n#define a16 a15 a15\n#define a17 a16 a16\n#error\na17 x",
         b"!9",
     ),
 ];

@@ -48,7 +48,8 @@ impl Reader {
     /// `#if`
     pub fn open_if(&mut self, alloc: Global, line: u32, list: &[Token]) -> Result<(), Pre>
         requires { length self.old.tokens.items ≤ 131072 }
-        ensures step { Steps (opened_if (state_of self.old) line (condition 1024 (state_of self.old).macros (plain_tokens list.now))) (state_of self.new) result }
+        ensures step { Steps (opened_if (state_of self.old) line
+            (condition 1024 (state_of self.old).macros (plain_tokens list.now))) (state_of self.new) result }
         ensures within { length self.new.tokens.items ≤ 131072 }
     {
         match condition(alloc, &self.macros, LEVELS, &mut self.work, list) {
@@ -62,7 +63,8 @@ impl Reader {
     /// `#ifdef`, or `#ifndef` where the name is wanted not to be defined.
     pub fn open_ifdef(&mut self, line: u32, wanted: bool, list: &[Token]) -> Result<(), Pre>
         requires { length self.old.tokens.items ≤ 131072 }
-        ensures step { Steps (opened_ifdef (state_of self.old) line wanted (asked_defined (state_of self.old).macros (plain_tokens list.now))) (state_of self.new) result }
+        ensures step { Steps (opened_ifdef (state_of self.old) line wanted
+            (asked_defined (state_of self.old).macros (plain_tokens list.now))) (state_of self.new) result }
         ensures within { length self.new.tokens.items ≤ 131072 }
     {
         match asked_defined(&self.macros, list) {
@@ -74,7 +76,8 @@ impl Reader {
     /// `#elif`
     pub fn elif(&mut self, alloc: Global, line: u32, list: &[Token]) -> Result<(), Pre>
         requires { length self.old.tokens.items ≤ 131072 }
-        ensures step { Steps (elif_step 1024 (state_of self.old) line (plain_tokens list.now) (state_of self.old).conditionals) (state_of self.new) result }
+        ensures step { Steps (elif_step 1024 (state_of self.old) line (plain_tokens list.now) (state_of self.old).conditionals)
+            (state_of self.new) result }
         ensures within { length self.new.tokens.items ≤ 131072 }
     {
         let Some(c) = self.conditionals.pop() else {
@@ -98,7 +101,8 @@ impl Reader {
         c: Conditional,
     ) -> Result<(), Pre>
         requires { length self.old.tokens.items ≤ 131072 }
-        ensures step { Steps (elif_judged (state_of self.old) line c (state_of self.old).conditionals (condition 1024 (state_of self.old).macros (plain_tokens list.now))) (state_of self.new) result }
+        ensures step { Steps (elif_judged (state_of self.old) line c (state_of self.old).conditionals
+            (condition 1024 (state_of self.old).macros (plain_tokens list.now))) (state_of self.new) result }
         ensures within { length self.new.tokens.items ≤ 131072 }
     {
         match condition(alloc, &self.macros, LEVELS, &mut self.work, list) {
@@ -129,7 +133,8 @@ impl Reader {
     /// `#else`
     pub fn otherwise(&mut self, line: u32, list: &[Token]) -> Result<(), Pre>
         requires { length self.old.tokens.items ≤ 131072 }
-        ensures step { Steps (else_step (state_of self.old) line (plain_tokens list.now) (state_of self.old).conditionals) (state_of self.new) result }
+        ensures step { Steps (else_step (state_of self.old) line (plain_tokens list.now) (state_of self.old).conditionals)
+            (state_of self.new) result }
         ensures within { length self.new.tokens.items ≤ 131072 }
     {
         if !list.is_empty() {
@@ -147,7 +152,8 @@ impl Reader {
     /// `#endif`
     pub fn endif(&mut self, line: u32, list: &[Token]) -> Result<(), Pre>
         requires { length self.old.tokens.items ≤ 131072 }
-        ensures step { Steps (endif_step (state_of self.old) line (plain_tokens list.now) (state_of self.old).conditionals) (state_of self.new) result }
+        ensures step { Steps (endif_step (state_of self.old) line (plain_tokens list.now) (state_of self.old).conditionals)
+            (state_of self.new) result }
         ensures within { length self.new.tokens.items ≤ 131072 }
     {
         if !list.is_empty() {

@@ -18,7 +18,8 @@ impl Reader {
     /// `#define`
     fn define(&mut self, alloc: Global, line: u32, list: &[Token]) -> Result<(), Pre>
         requires { length self.old.tokens.items ≤ 131072 }
-        ensures step { Steps (with_macros (state_of self.old) line (after_define (state_of self.old).macros (plain_tokens list.now))) (state_of self.new) result }
+        ensures step { Steps (with_macros (state_of self.old) line
+            (after_define (state_of self.old).macros (plain_tokens list.now))) (state_of self.new) result }
         ensures within { length self.new.tokens.items ≤ 131072 }
     {
         match define(alloc, &mut self.macros, list) {
@@ -31,7 +32,8 @@ impl Reader {
     /// `#line`
     fn line(&mut self, alloc: Global, line: u32, list: &[Token]) -> Result<(), Pre>
         requires { length self.old.tokens.items ≤ 131072 }
-        ensures step { Steps (line_step (state_of self.old) line (expanded 1024 (state_of self.old).macros [] [] (plain_tokens list.now))) (state_of self.new) result }
+        ensures step { Steps (line_step (state_of self.old) line
+            (expanded 1024 (state_of self.old).macros [] [] (plain_tokens list.now))) (state_of self.new) result }
         ensures within { length self.new.tokens.items ≤ 131072 }
     {
         let mut hidden = Vec::new(alloc);

@@ -40,7 +40,8 @@ fn append_argument(
     token: &Token,
     line: u32,
 ) -> Result<(), AllocError>
-    ensures { OnOk result (plain_tokens out.new.items ≡ plain_tokens out.old.items ++ at_line line (argument_or (option_map (λ v. plain_tokens v.now.items) argument.entry) (plain token.now))) }
+    ensures { OnOk result (plain_tokens out.new.items ≡ plain_tokens out.old.items
+        ++ at_line line (argument_or (option_map (λ v. plain_tokens v.now.items) argument.entry) (plain token.now))) }
 {
     match argument {
         Some(tokens) => append_at_line(alloc, out, tokens.as_slice(), line),
@@ -59,7 +60,8 @@ pub fn substituted(
     line: u32,
     body: &[Token],
 ) -> Result<Vec<Token>, AllocError>
-    ensures { IfOk result (λ tokens. plain_tokens tokens.items ≡ substituted (texts parameters.now) (lists arguments.now) line (plain_tokens body.now)) }
+    ensures { IfOk result (λ tokens. plain_tokens tokens.items ≡ substituted
+        (texts parameters.now) (lists arguments.now) line (plain_tokens body.now)) }
 {
     let mut out = Vec::new(alloc);
     let mut rest = body;

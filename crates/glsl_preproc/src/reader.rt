@@ -92,7 +92,8 @@ impl Reader {
 
     /// Adds tokens to those of the text lines.
     fn append_text(&mut self, alloc: Global, list: &[Token]) -> Result<(), AllocError>
-        ensures text { OnOk result (state_of self.new ≡ record (state_of self.old) { text = (state_of self.old).text ++ plain_tokens list.now }) }
+        ensures text { OnOk result (state_of self.new
+            ≡ record (state_of self.old) { text = (state_of self.old).text ++ plain_tokens list.now }) }
         ensures same { self.new.tokens.items ≡ self.old.tokens.items }
     {
         append_copies(alloc, &mut self.text, list)
@@ -100,7 +101,8 @@ impl Reader {
 
     /// Adds the tokens before the first `#` to those of the text lines.
     fn append_text_before_hash(&mut self, alloc: Global, list: &[Token]) -> Result<(), AllocError>
-        ensures text { OnOk result (state_of self.new ≡ record (state_of self.old) { text = (state_of self.old).text ++ before_hash (plain_tokens list.now) }) }
+        ensures text { OnOk result (state_of self.new
+            ≡ record (state_of self.old) { text = (state_of self.old).text ++ before_hash (plain_tokens list.now) }) }
         ensures same { self.new.tokens.items ≡ self.old.tokens.items }
     {
         append_before_hash(alloc, &mut self.text, list)
@@ -109,7 +111,8 @@ impl Reader {
     /// A text line. A `#` in it fails, once the tokens before it are expanded.
     fn add_text(&mut self, alloc: Global, list: &[Token]) -> Result<(), Pre>
         requires { length self.old.tokens.items ≤ 131072 }
-        ensures step { Steps (text_step 1024 (state_of self.old) (plain_tokens list.now) (stray_hash (plain_tokens list.now))) (state_of self.new) result }
+        ensures step { Steps (text_step 1024 (state_of self.old) (plain_tokens list.now) (stray_hash (plain_tokens list.now)))
+            (state_of self.new) result }
         ensures within { length self.new.tokens.items ≤ 131072 }
     {
         match stray_hash(list) {

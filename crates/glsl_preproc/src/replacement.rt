@@ -57,7 +57,8 @@ pub fn expand_list(
     limit: usize,
 ) -> Result<(), Pre>
     requires { length out.old.items ≤ limit }
-    ensures outcome { Expands limit (expanded levels macros.now (texts hidden.old.items) (plain_tokens out.old.items) (plain_tokens list.now)) (plain_tokens out.new.items) result }
+    ensures outcome { Expands limit (expanded levels macros.now (texts hidden.old.items) (plain_tokens out.old.items)
+        (plain_tokens list.now)) (plain_tokens out.new.items) result }
     ensures hidden { OnOk result (texts hidden.new.items ≡ texts hidden.old.items) }
     ensures within { length out.new.items ≤ limit }
 {
@@ -129,7 +130,8 @@ fn rescan(
     limit: usize,
 ) -> Result<(), Pre>
     requires { length out.old.items ≤ limit }
-    ensures outcome { Expands limit (expanded levels macros.now (texts hidden.old.items ++ name.now ∷ []) (plain_tokens out.old.items) (plain_tokens list.now)) (plain_tokens out.new.items) result }
+    ensures outcome { Expands limit (expanded levels macros.now (texts hidden.old.items ++ name.now ∷ [])
+        (plain_tokens out.old.items) (plain_tokens list.now)) (plain_tokens out.new.items) result }
     ensures hidden { OnOk result (texts hidden.new.items ≡ texts hidden.old.items) }
     ensures within { length out.new.items ≤ limit }
 {
@@ -159,7 +161,8 @@ fn expand_object(
     limit: usize,
 ) -> Result<(), Pre>
     requires { length out.old.items ≤ limit }
-    ensures outcome { Expands limit (expanded levels macros.now (texts hidden.old.items ++ name.now.text.items ∷ []) (plain_tokens out.old.items) (at_line name.now.line (plain_tokens m.now.body.items))) (plain_tokens out.new.items) result }
+    ensures outcome { Expands limit (expanded levels macros.now (texts hidden.old.items ++ name.now.text.items ∷ [])
+        (plain_tokens out.old.items) (at_line name.now.line (plain_tokens m.now.body.items))) (plain_tokens out.new.items) result }
     ensures hidden { OnOk result (texts hidden.new.items ≡ texts hidden.old.items) }
     ensures within { length out.new.items ≤ limit }
 {
@@ -200,7 +203,8 @@ fn expand_arguments(
     work: &mut u32,
     arguments: &[Vec<Token>],
 ) -> Result<Vec<Vec<Token>>, Pre>
-    ensures outcome { ExpandsArguments (expanded_arguments (expanded levels macros.now (texts hidden.old.items) []) [] (lists arguments.now)) result }
+    ensures outcome { ExpandsArguments (expanded_arguments (expanded levels macros.now (texts hidden.old.items) []) []
+        (lists arguments.now)) result }
     ensures hidden { OnOk result (texts hidden.new.items ≡ texts hidden.old.items) }
 {
     let mut done = Vec::new(alloc);
@@ -243,7 +247,9 @@ fn expand_call(
     limit: usize,
 ) -> Result<(), Pre>
     requires { length out.old.items ≤ limit }
-    ensures outcome { Expands limit (call_outcome (expanded levels macros.now) (texts hidden.old.items) (plain_tokens out.old.items) (plain name.now) (plain_macro m.now) (parameters_of m.now.parameters) (lists arguments.now.lists.items)) (plain_tokens out.new.items) result }
+    ensures outcome { Expands limit (call_outcome (expanded levels macros.now) (texts hidden.old.items)
+        (plain_tokens out.old.items) (plain name.now) (plain_macro m.now) (parameters_of m.now.parameters)
+        (lists arguments.now.lists.items)) (plain_tokens out.new.items) result }
     ensures hidden { OnOk result (texts hidden.new.items ≡ texts hidden.old.items) }
     ensures within { length out.new.items ≤ limit }
 {

@@ -17,7 +17,8 @@ line_end_len (a ∷ b ∷ bytes) = if is_line_end_pair a b then 2 else (if is_li
 unfoldable pub line_ends : List ℕ → ℕ
 line_ends [] = 0
 line_ends (a ∷ []) = if is_line_break a then 1 else 0
-line_ends (a ∷ b ∷ bytes) = if is_line_end_pair a b then line_ends bytes + 1 else (if is_line_break a then line_ends (b ∷ bytes) + 1 else line_ends (b ∷ bytes))
+line_ends (a ∷ b ∷ bytes) =
+    if is_line_end_pair a b then line_ends bytes + 1 else (if is_line_break a then line_ends (b ∷ bytes) + 1 else line_ends (b ∷ bytes))
 
 -- how many bytes come before the next line end
 abbrev pub before_line_end : List ℕ → ℕ

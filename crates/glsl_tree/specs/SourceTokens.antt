@@ -84,7 +84,8 @@ after_token before class text = record {
 unfoldable pub after_gap : Before → ℕ → Before
 after_gap before lines = record { tokens = before.tokens; line = before.line + lines; joined = false }
 
--- The tokens of a text, behind those before it, or the line at which neither a token nor a gap begins. The first k bytes belong to the piece before.
+-- The tokens of a text, behind those before it, or the line at which neither a token nor a gap begins. The first k bytes
+-- belong to the piece before.
 unfoldable pub tokens_from : Before → ℕ → List ℕ → Result (List PlainToken) ℕ
 tokens_from before k [] = Ok before.tokens
 tokens_from before (suc k) (b ∷ bytes) = tokens_from before k bytes

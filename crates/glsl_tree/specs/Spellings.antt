@@ -63,7 +63,8 @@ abbrev pub is_exponent_or_nothing : List ℕ → Bool
 is_exponent_or_nothing [] = true
 is_exponent_or_nothing (b ∷ text) = is_exponent (b ∷ text)
 
--- what makes a number a float, behind its first digits: a point, with digits before it or after it, and then an exponent or none; or an exponent, with digits before it
+-- what makes a number a float, behind its first digits: a point, with digits before it or after it, and then an exponent or
+-- none; or an exponent, with digits before it
 unfoldable pub is_float_behind : Bool → List ℕ → Bool
 is_float_behind digits [] = false
 is_float_behind digits (b ∷ text) =
