@@ -57,6 +57,10 @@ fn first_eight(begun: &[u8], piece: &[u8]) -> Option<[u8; 8]>
     ensures { AreFirst begun.now piece.now result }
 {
     let mut first = [0u8; 8];
+    if begun.is_empty() && piece.len() >= 8 {
+        first.copy_from_slice(&piece[..8]);
+        return Some(first);
+    }
     if begun.len() >= 8 {
         first.copy_from_slice(&begun[..8]);
         return Some(first);

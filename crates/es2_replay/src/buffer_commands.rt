@@ -68,13 +68,6 @@ impl Machine {
         self.bound.get(BufferTarget::from_u32(target)?)
     }
 
-    /// The first target of a name's buffer, where it is made and was bound.
-    fn first_target(&self, name: u32) -> Option<BufferTarget>
-        ensures { result ≡ option_and_then (λ b. b.first_target) (named self.now.made name) }
-    {
-        self.buffers.get(&name)?.first_target()
-    }
-
     /// The buffer that is bound to the target of a word.
     fn bound_buffer(&self, target: u32) -> Option<&BufferObject>
         ensures { option_copied result ≡ option_and_then (named self.now.made) (bound_to self.now.bound target) }
@@ -89,10 +82,15 @@ impl Machine {
         let Some(wanted) = BufferTarget::from_u32(target) else {
             return Some(GlError::Enum);
         };
-        if name != 0 && !self.is_made(name) {
-            return Some(GlError::Operation);
-        }
-        match self.first_target(name) {
+        let Some(buffer) = self.buffers.get(&name) else {
+            // No buffer of this name is made, and 0 unbinds.
+            return if name != 0 {
+                Some(GlError::Operation)
+            } else {
+                None
+            };
+        };
+        match buffer.first_target() {
             Some(first) if first != wanted => Some(GlError::Operation),
             _ => None,
         }
