@@ -3,3 +3,9 @@ pub mod Characters
 pub mod Comments
 pub mod Spellings
 pub mod SourceTokens
+pub mod Operators
+pub mod Qualifiers
+pub mod Expressions
+pub mod Types
+pub mod Declarations
+pub mod Statements
