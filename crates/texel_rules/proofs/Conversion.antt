@@ -15,7 +15,7 @@ use Rattle.texel_rules.specs.declared.layouts.Layout.{Layout}
 use Rattle.texel_rules.specs.declared.layouts.Texel.{Texel}
 use Rattle.texel_rules.specs.Layouts.{bytes_of, texel_bytes}
 use Rattle.texel_rules.specs.Texels.{converted, packed, packed_by}
-use Rattle.texel_rules.specs.Uploads.{IsWhole, converted_row, texels_of}
+use Rattle.texel_rules.specs.UploadedTexels.{IsWhole, converted_row, texels_of}
 
 bytes_some : (kind : TexelType) (format : Format) → 0 < bytes_of kind format
 bytes_some UnsignedByte Alpha = omega arith

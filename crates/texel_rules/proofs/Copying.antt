@@ -10,7 +10,7 @@ use Rattle.texel_rules.specs.declared.layouts.Layout.{Layout}
 use Rattle.texel_rules.specs.declared.layouts.Texel.{Texel}
 use Rattle.texel_rules.specs.Layouts.{IsAllowed, bytes_of, goes_with, texel_bytes}
 use Rattle.texel_rules.specs.Texels.{converted, field, full_alpha, is_premultiplied, le16, packed, packed_by, premultiplied, premultiplied_by, texel_by, texel_of, word_of}
-use Rattle.texel_rules.specs.Uploads.{IsWhole, converted_row, texels_of}
+use Rattle.texel_rules.specs.UploadedTexels.{IsWhole, converted_row, texels_of}
 use Rattle.texel_rules.proofs.Conversion.{converted_row-first, converted_row-none, some_bytes, whole-first, whole-rest}
 
 -- each number is a byte
