@@ -98,6 +98,12 @@ fn the_last_row_comes_first_with_flip(rt: HostRuntime) {
     has_row(&rt, &upload, &view, 0, &[7, 8, 9]);
     has_row(&rt, &upload, &view, 1, &[4, 5, 6]);
     has_row(&rt, &upload, &view, 2, &[1, 2, 3]);
+    let two = Upload {
+        height: 2,
+        ..upload
+    };
+    has_row(&rt, &two, &view[..7], 0, &[4, 5, 6]);
+    has_row(&rt, &two, &view[..7], 1, &[1, 2, 3]);
 }
 
 #[test]
