@@ -1,15 +1,15 @@
 -- A row that lies in a view is converted to the uploaded texels of the row.
-use Rattle.std.proofs.Common.{◌≡◌, ◌≤◌, ◌<◌, ◌+◌, ◌-◌, ◌*◌, ◌/◌, ◌%◌, ℕ, zero, suc, Bool, true, false, List, [], ◌∷◌, ◌++◌, length, take, drop, refl, sym, ap, ◌∙◌, arith, add-one, length-drop}
+use Rattle.std.proofs.Common.{◌≡◌, ◌≤◌, ◌<◌, ◌+◌, ◌-◌, ◌*◌, ◌/◌, ℕ, zero, suc, Bool, true, false, List, ◌++◌, length, take, drop, refl, sym, ap, ◌∙◌, arith, add-one, length-drop}
 use Rattle.std.specs.Prelude.{◌==◌, ◌||◌, if◌then◌else◌}
 use Rattle.std.proofs.lemmas.Bool.{eqb-true}
 use Rattle.std.specs.List.{flat_map, range_with_len}
 use Rattle.std.specs.Simd.{first_chunks}
-use Rattle.std.proofs.Math.Nat.{div-eq_of_lt, zero-mul, mul-div_cancel, mul-le-mul_right, mul-mod_left, suc-mul}
+use Rattle.std.proofs.Math.Nat.{div-eq_of_lt, zero-mul, mul-div_cancel, mul-le-mul_right, suc-mul}
 use Rattle.std.proofs.lemmas.List.{drop-drop, drop-take, length-take-le, take-take}
 use Rattle.texel_rules.specs.declared.uploads.Upload.{Upload}
 use Rattle.texel_rules.specs.Layouts.{texel_bytes}
 use Rattle.texel_rules.specs.Texels.{converted}
-use Rattle.texel_rules.specs.UploadedTexels.{IsUpload, IsWhole, converted_row, pitch, row_bytes, source_row, texels_of, uploaded_row, view_bytes}
+use Rattle.texel_rules.specs.UploadedTexels.{IsUpload, converted_row, pitch, row_bytes, source_row, texels_of, uploaded_row, view_bytes}
 use Rattle.texel_rules.proofs.Conversion.{some_bytes}
 
 -- the texels of a part of a view, by their places, and as pieces of the part
