@@ -52,6 +52,7 @@ fn main(rt: HostRuntime) -> ExitCode {
         return ExitCode::from(2);
     };
     let word = words.last().map_or("", |word| word.as_str());
+    // The layout stays unknown to the compiler, as it is where a page's image is uploaded.
     let format = if word == "rgb" { Format::Rgb } else { Format::Rgba };
     let layout = Layout {
         format,
