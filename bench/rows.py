@@ -126,7 +126,7 @@ def main():
         program = build(pathlib.Path(folder))
         idle = seconds(program, "nothing")
         rates = [(name, size / (seconds(program, way) - idle)) for way, name in WAYS]
-    print(f"{size} bytes in rows of {number('ROW', text)}")
+    print(f"{size} bytes in rows of {number('ROW')}")
     for name, rate in rates:
         print(f"  {name:26} {rate / 1e9:8.2f} GB/s {rate / rates[0][1]:8.3f} of the copy's rate")
 
