@@ -1,5 +1,5 @@
 -- How what is stored is told apart: each record is a tuple of its parts.
-use Rattle.std.specs.Prelude.{◌≡◌, ℕ, Option, refl}
+use Rattle.std.specs.Prelude.{ℕ, Option, refl}
 use Rattle.std.specs.Coded.{Coded, code_by, coded_option, coded×, coded_ℕ}
 use Rattle.std.specs.Ordering.{nat_cmp}
 use Rattle.std.specs.FinMap.{FinMap, code}

@@ -23,7 +23,11 @@ four_attached color depth stencil depth_stencil = record {
 -- the images of a list: colour, depth, stencil, depth and stencil
 abbrev pub attached_at : List (Option ImageInfo) → Attached
 attached_at images =
-    four_attached (slice_index_or images 0 None) (slice_index_or images 1 None) (slice_index_or images 2 None) (slice_index_or images 3 None)
+    four_attached
+    (slice_index_or images 0 None)
+    (slice_index_or images 1 None)
+    (slice_index_or images 2 None)
+    (slice_index_or images 3 None)
 
 -- the status where one image is attached
 abbrev pub alone_status : Point → AttachedImage → ℕ

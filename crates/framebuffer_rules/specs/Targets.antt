@@ -37,6 +37,12 @@ new_storage = record { format = rgba4; width = 0; height = 0 }
 abbrev pub nothing_attached : Attachments
 nothing_attached = record { color = None; depth = None; stencil = None; depth_stencil = None }
 
+-- whether objects of a kind are targets: renderbuffers and framebuffers
+abbrev pub is_target : Kind → Bool
+is_target Renderbuffer = true
+is_target Framebuffer = true
+is_target kind = false
+
 -- a new object of a kind; objects of other kinds are no targets
 abbrev pub added : Kind → ℕ → Stored → Stored
 added Renderbuffer h s = record s { renderbuffers = insert s.renderbuffers h new_storage }

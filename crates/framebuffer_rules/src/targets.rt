@@ -1,7 +1,7 @@
-ghost use Rattle.std.specs.Prelude.{◌≡◌, IsSome, OnOk, OnErr};
+ghost use Rattle.std.specs.Prelude.{◌≡◌, IsSome, IsTrue, OnOk, OnErr};
 ghost use Rattle.std.specs.FinMap.{get, insert};
 ghost use Rattle.gl_numbers.specs.declared.kinds.Kind.TheVariants.{Framebuffer, Renderbuffer};
-ghost use Rattle.framebuffer_rules.specs.Targets.{Answers, added, at_point, image_at, info_at, no_targets, put_at, side_of, storage_refusal, with_image, with_storage, without};
+ghost use Rattle.framebuffer_rules.specs.Targets.{Answers, added, at_point, image_at, info_at, is_target, no_targets, put_at, side_of, storage_refusal, with_image, with_storage, without};
 
 use crate::{Image, ImageInfo};
 use gl_numbers::{GlError, Handle, Kind, Memory, Point, RGBA4, is_renderbuffer_format};
@@ -85,11 +85,12 @@ impl Targets {
     }
 
     /// Adds the new object `h`: a renderbuffer of format RGBA4 whose sides are 0, or a framebuffer to which nothing is
-    /// attached. An object of another kind is no target, and nothing changes. Err where memory runs out, and then
-    /// nothing changes either.
+    /// attached. An object of another kind is no target: nothing changes, and no memory is taken. Err where memory runs out,
+    /// and then nothing changes either.
     pub fn add(&mut self, h: Handle, kind: Kind) -> Result<(), Memory>
         ensures ok { OnOk result (self.new ≡ added kind h self.old) }
         ensures err { OnErr result (self.new ≡ self.old) }
+        ensures memory { OnErr result (IsTrue (is_target kind)) }
     {
         match kind {
             Kind::Renderbuffer => self.add_renderbuffer(h),

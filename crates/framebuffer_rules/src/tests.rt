@@ -216,3 +216,14 @@ fn sides_that_differ_are_found_after_unfit_images(rt: HostRuntime) {
     assert_eq!(rt; status(&[None, depth, None, None]), 0x8CD5);
     assert_eq!(rt; status(&[None; 4]), 0x8CD7);
 }
+
+#[test]
+fn an_object_of_another_kind_is_no_target(rt: HostRuntime) {
+    let mut targets = Targets::new(rt.alloc());
+    for kind in [Kind::Buffer, Kind::Texture, Kind::Shader, Kind::Program] {
+        assert!(rt; targets.add(4, kind).is_ok());
+        assert_eq!(rt; targets.renderbuffer(4), None);
+        targets.attach(4, Point::Color, Some(Image { h: 2, face: 0 }));
+        assert_eq!(rt; targets.attached(4, Point::Color), None);
+    }
+}

@@ -1,5 +1,5 @@
 -- Rows converted texel by texel, from the first on.
-use Rattle.std.proofs.Common.{◌≡◌, ◌≤◌, ◌<◌, ◌+◌, ◌-◌, ◌⊎◌, inl, inr, ◌/◌, ◌%◌, ℕ, zero, suc, Bool, List, [], ◌∷◌, ◌++◌, length, take, drop, refl, sym, ap, ◌∙◌, arith, length-drop, append_assoc, append-nil}
+use Rattle.std.proofs.Common.{◌≡◌, ◌≤◌, ◌<◌, ◌+◌, ◌-◌, ◌⊎◌, inl, inr, ◌/◌, ◌%◌, ℕ, suc, Bool, List, [], ◌++◌, length, take, drop, refl, sym, ap, ◌∙◌, arith, length-drop, append_assoc, append-nil}
 use Rattle.std.specs.List.{flat_map}
 use Rattle.std.specs.Simd.{first_chunks}
 use Rattle.std.proofs.lemmas.Bool.{cases_lt}
@@ -15,7 +15,7 @@ use Rattle.texel_rules.specs.declared.layouts.Layout.{Layout}
 use Rattle.texel_rules.specs.declared.layouts.Texel.{Texel}
 use Rattle.texel_rules.specs.Layouts.{bytes_of, texel_bytes}
 use Rattle.texel_rules.specs.Texels.{converted, packed, packed_by}
-use Rattle.texel_rules.specs.Uploads.{IsWhole, converted_row, texels_of}
+use Rattle.texel_rules.specs.UploadedTexels.{IsWhole, converted_row, texels_of}
 
 bytes_some : (kind : TexelType) (format : Format) → 0 < bytes_of kind format
 bytes_some UnsignedByte Alpha = omega arith

@@ -1,5 +1,5 @@
 -- A row of which no texel changes is converted to itself.
-use Rattle.std.proofs.Common.{◌≡◌, ◌≤◌, ◌<◌, ◌+◌, ◌-◌, ◌*◌, ◌/◌, ◌%◌, ◌^◌, ℕ, zero, suc, Bool, true, false, List, [], ◌∷◌, ◌++◌, length, take, drop, get_or, refl, sym, ap, ◌∙◌, arith, length-drop}
+use Rattle.std.proofs.Common.{◌≡◌, ◌≤◌, ◌<◌, ◌+◌, ◌*◌, ◌/◌, ◌%◌, ℕ, zero, suc, Bool, true, false, List, [], ◌∷◌, ◌++◌, length, take, drop, get_or, refl, sym, ap, ◌∙◌, arith, length-drop}
 use Rattle.std.specs.Prelude.{IsTrue, ◌&&◌}
 use Rattle.std.proofs.lemmas.List.{get_or-drop, get_or-take, length-take-le, take-append-drop}
 use Rattle.gl_numbers.specs.declared.texture_words.Format.{Format}
@@ -9,8 +9,8 @@ use Rattle.gl_numbers.specs.declared.texture_words.TexelType.TheVariants.{Unsign
 use Rattle.texel_rules.specs.declared.layouts.Layout.{Layout}
 use Rattle.texel_rules.specs.declared.layouts.Texel.{Texel}
 use Rattle.texel_rules.specs.Layouts.{IsAllowed, bytes_of, goes_with, texel_bytes}
-use Rattle.texel_rules.specs.Texels.{converted, field, full_alpha, is_premultiplied, le16, packed, packed_by, premultiplied, premultiplied_by, texel_by, texel_of, word_of}
-use Rattle.texel_rules.specs.Uploads.{IsWhole, converted_row, texels_of}
+use Rattle.texel_rules.specs.Texels.{converted, full_alpha, is_premultiplied, le16, packed, packed_by, premultiplied_by, texel_by, texel_of, word_of}
+use Rattle.texel_rules.specs.UploadedTexels.{IsWhole, converted_row}
 use Rattle.texel_rules.proofs.Conversion.{converted_row-first, converted_row-none, some_bytes, whole-first, whole-rest}
 
 -- each number is a byte

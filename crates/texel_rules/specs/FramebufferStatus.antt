@@ -1,5 +1,5 @@
 -- The status of a framebuffer (OpenGL ES 2.0 section 4.4.5, WebGL 1.0 section 6.6).
-use Rattle.std.specs.Prelude.{ℕ, Bool, true, false, ◌==◌, ◌&&◌, ◌||◌, not, if◌then◌else◌, Option, Some, None, is_some}
+use Rattle.std.specs.Prelude.{ℕ, Bool, false, ◌==◌, ◌&&◌, ◌||◌, not, if◌then◌else◌, Option, Some, None, is_some}
 use Rattle.gl_numbers.specs.declared.framebuffer_words.Point.{Point}
 use Rattle.gl_numbers.specs.declared.framebuffer_words.Point.TheVariants.{Color, Depth, Stencil, DepthStencil}
 use Rattle.gl_numbers.specs.declared.texture_words.Format.TheVariants.{Rgb, Rgba}

@@ -1,5 +1,5 @@
 -- Levels of a texture: their sizes and which of them there are (OpenGL ES 2.0 sections 3.7.1 and 3.7.7).
-use Rattle.std.specs.Prelude.{ℕ, zero, suc, ◌/◌, ◌^◌, max, Bool, true, false, ◌==◌, ◌&&◌, ◌||◌, nat_le, Option, Some, None, List, [], ◌∷◌}
+use Rattle.std.specs.Prelude.{ℕ, zero, suc, ◌/◌, ◌^◌, max, Bool, true, false, ◌==◌, ◌&&◌, nat_le, Option, Some, None, List, [], ◌∷◌}
 use Rattle.gl_numbers.specs.declared.texture_words.TexTarget.{TexTarget}
 use Rattle.gl_numbers.specs.declared.texture_words.TexTarget.TheVariants as Target
 use Rattle.gl_numbers.specs.declared.texture_words.Face.{Face}

@@ -1,6 +1,6 @@
 pub mod Layouts
 pub mod Texels
-pub mod Uploads
+pub mod UploadedTexels
 pub mod Levels
 pub mod TextureComplete
 pub mod FramebufferStatus

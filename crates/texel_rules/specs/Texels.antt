@@ -1,6 +1,6 @@
 -- Texels taken apart into channels, multiplied by their alpha and packed again (OpenGL ES 2.0 section 3.6.2, WebGL 1.0 section
 -- 5.14.8).
-use Rattle.std.specs.Prelude.{ℕ, ◌+◌, ◌-◌, ◌*◌, ◌/◌, ◌%◌, ◌^◌, ◌<◌, Bool, true, false, if◌then◌else◌, List, [], ◌∷◌, slice_index}
+use Rattle.std.specs.Prelude.{ℕ, ◌+◌, ◌*◌, ◌/◌, ◌%◌, ◌^◌, ◌<◌, Bool, true, false, if◌then◌else◌, List, [], ◌∷◌, slice_index}
 use Rattle.gl_numbers.specs.declared.texture_words.Format.{Format}
 use Rattle.gl_numbers.specs.declared.texture_words.Format.TheVariants.{Alpha, Rgb, Rgba, Luminance, LuminanceAlpha}
 use Rattle.gl_numbers.specs.declared.texture_words.TexelType.{TexelType}

@@ -1,7 +1,7 @@
 ghost use Rattle.std.specs.Prelude.{◌≡◌, ◌*◌, ◌<◌, ◌^◌, true, length};
 ghost use Rattle.texel_rules.specs.Layouts.{IsAllowed};
 ghost use Rattle.texel_rules.specs.Texels.{is_premultiplied};
-ghost use Rattle.texel_rules.specs.Uploads.{IsWhole, converted_row, source_row};
+ghost use Rattle.texel_rules.specs.UploadedTexels.{IsWhole, converted_row, source_row};
 
 use crate::{Layout, pack_texel, premultiply, read_texel};
 use gl_numbers::Format;

@@ -1,6 +1,6 @@
 -- What each call refuses, each rule once, and what it does where nothing refuses (OpenGL ES 2.0 sections 3.7.1 to 3.7.13, WebGL
 -- 1.0 section 5.14.8).
-use Rattle.std.specs.Prelude.{◌≡◌, ℕ, ℤ, pos, negsuc, ◌+◌, ◌==◌, ◌&&◌, ◌||◌, not, nat_lt, nat_le, Bool, true, false, if◌then◌else◌, Option, Some, None, is_some, Result, Ok, Err, List, [], ◌∷◌, slice_index_or}
+use Rattle.std.specs.Prelude.{◌≡◌, ℕ, ℤ, pos, negsuc, ◌+◌, ◌==◌, ◌||◌, not, nat_lt, Bool, true, false, if◌then◌else◌, Option, Some, None, is_some, Result, Ok, Err, List, [], ◌∷◌, slice_index_or}
 use Rattle.std.specs.Option.{option_map_or}
 use Rattle.gl_numbers.specs.declared.errors.GlError.{GlError}
 use Rattle.std.specs.FinMap.{get}

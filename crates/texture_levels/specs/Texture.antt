@@ -1,10 +1,10 @@
 -- One texture: its target, its parameters and its levels (OpenGL ES 2.0 sections 3.7.1, 3.7.4 and 3.7.13).
-use Rattle.std.specs.Prelude.{◌≡◌, ℕ, zero, suc, ◌+◌, ◌*◌, ◌==◌, ◌&&◌, nat_lt, Bool, if◌then◌else◌, Option, Some, None, List, [], ◌∷◌, length, replicate, slice_index_or, slice_set}
+use Rattle.std.specs.Prelude.{ℕ, zero, suc, ◌+◌, ◌*◌, ◌&&◌, nat_lt, Bool, if◌then◌else◌, Option, Some, None, List, [], ◌∷◌, replicate, slice_index_or, slice_set}
 use Rattle.gl_numbers.specs.declared.texture_words.TexTarget.{TexTarget}
 use Rattle.gl_numbers.specs.declared.texture_words.Face.{Face}
 use Rattle.gl_numbers.specs.declared.texture_words.Face.TheVariants.{Texture2d, PositiveX, NegativeX, PositiveY, NegativeY, PositiveZ, NegativeZ}
 use Rattle.texel_rules.specs.declared.layouts.LevelInfo.{LevelInfo}
-use Rattle.texel_rules.specs.Levels.{Levels, faces_of, is_reached, level_count, level_of}
+use Rattle.texel_rules.specs.Levels.{Levels, is_reached, level_count, level_of}
 use Rattle.texel_rules.specs.TextureComplete.{Parameters, first_parameters, is_texture_complete}
 
 -- the levels of all faces, the base of each face first

@@ -11,4 +11,6 @@ mod textures;
 pub use textures::Textures;
 
 #[cfg(test)]
+mod completeness_tests;
+#[cfg(test)]
 mod tests;

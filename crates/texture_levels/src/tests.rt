@@ -9,7 +9,7 @@ const RGBA: Layout = Layout {
     kind: TexelType::UnsignedByte,
 };
 
-const CUBE: [Face; 6] = [
+pub(crate) const CUBE: [Face; 6] = [
     Face::PositiveX,
     Face::NegativeX,
     Face::PositiveY,
@@ -19,7 +19,7 @@ const CUBE: [Face; 6] = [
 ];
 
 /// A level of RGBA bytes.
-fn level(width: u32, height: u32) -> LevelInfo {
+pub(crate) fn level(width: u32, height: u32) -> LevelInfo {
     LevelInfo {
         width,
         height,
@@ -28,7 +28,7 @@ fn level(width: u32, height: u32) -> LevelInfo {
 }
 
 /// Texture 1 of a target, with bases of this size on each face; None where memory runs out.
-fn with_bases(alloc: Global, target: TexTarget, base: LevelInfo) -> Option<Textures> {
+pub(crate) fn with_bases(alloc: Global, target: TexTarget, base: LevelInfo) -> Option<Textures> {
     let mut textures = Textures::new(alloc);
     let Ok(()) = textures.add(1) else {
         return None;

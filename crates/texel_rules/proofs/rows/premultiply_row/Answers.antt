@@ -3,7 +3,7 @@ use Rattle.std.proofs.Common.{◌≡◌, ◌≤◌, ◌<◌, ◌+◌, ◌-◌, �
 use Rattle.std.proofs.lemmas.List.{drop-drop, drop_all, take_all}
 use Rattle.texel_rules.specs.Layouts.{texel_bytes}
 use Rattle.texel_rules.specs.Texels.{converted, packed, premultiplied, texel_of}
-use Rattle.texel_rules.specs.Uploads.{IsWhole, converted_row}
+use Rattle.texel_rules.specs.UploadedTexels.{IsWhole}
 use Rattle.texel_rules.proofs.Conversion.{finished, packed_length, turn, whole-first, whole-rest}
 use Rattle.texel_rules.proofs.rows.premultiply_row.Goals as goal
 

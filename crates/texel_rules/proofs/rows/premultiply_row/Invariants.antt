@@ -1,6 +1,6 @@
 -- What is written is the conversion of what was read, and whole texels are left.
 use Rattle.std.proofs.Common.{◌≡◌, ◌≤◌, ◌-◌, ◌++◌, true, length, take, drop}
-use Rattle.texel_rules.specs.Uploads.{IsWhole, converted_row}
+use Rattle.texel_rules.specs.UploadedTexels.{IsWhole, converted_row}
 use Rattle.texel_rules.proofs.rows.premultiply_row.Given as goal
 
 abbrev pub invariant-loop-at : goal.invariant-loop-at
