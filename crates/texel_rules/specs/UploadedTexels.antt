@@ -53,3 +53,7 @@ uploaded_texel upload view y x =
 -- row y of an image: its texels from the left
 abbrev pub uploaded_row : Upload → List ℕ → ℕ → List ℕ
 uploaded_row upload view y = flat_map (uploaded_texel upload view y) (range_with_len 0 upload.width)
+
+-- the bytes are the uploaded texels of row y of an image
+abbrev pub UploadedTexels : Upload → List ℕ → ℕ → List ℕ → Type 0
+UploadedTexels upload view y bytes = bytes ≡ uploaded_row upload view y

@@ -1,5 +1,5 @@
 ghost use Rattle.std.specs.Prelude.{◌≡◌, ◌<◌, ◌≤◌, length};
-ghost use Rattle.texel_rules.specs.UploadedTexels.{IsUpload, pitch, row_bytes, uploaded_row, view_bytes};
+ghost use Rattle.texel_rules.specs.UploadedTexels.{IsUpload, UploadedTexels, pitch, row_bytes, view_bytes};
 
 use crate::{Layout, plain_row, row_place};
 
@@ -62,7 +62,7 @@ pub fn upload_row(upload: &Upload, view: &[u8], y: u32, into: &mut [u8])
     requires row { y < upload.now.height }
     requires all { view_bytes upload.now ≤ length view.now }
     requires one { length into.old ≡ row_bytes upload.now }
-    ensures { into.new ≡ uploaded_row upload.now view.now y }
+    ensures { UploadedTexels upload.now view.now y into.new }
 {
     let place = row_place(upload.height, upload.pitch(), upload.flip, y) as usize;
     let from = &view[place..place + into.len()];
