@@ -4,7 +4,7 @@ processor minutes of each crate's proofs, tests and wrong bodies, as a table for
 
 Every half second it reads what each prover process below this one has used, so what a process uses in its last moments is
 not counted: some tenths of a second for each. The time says something only where nothing else runs on the machine; the
-processor minutes grow by up to a third where other work shares it.
+processor minutes grow where other work shares it.
 
 usage: bench/proofs.py [LOG]      (LOG: a file for what the gate says; none, where none is given)
 """
