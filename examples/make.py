@@ -16,6 +16,17 @@ ARRAY_BUFFER, ELEMENT_ARRAY_BUFFER = 0x8892, 0x8893
 STREAM_DRAW, STATIC_DRAW, DYNAMIC_DRAW = 0x88E0, 0x88E4, 0x88E8
 NO_ERROR, INVALID_ENUM, INVALID_VALUE, INVALID_OPERATION = 0, 0x0500, 0x0501, 0x0502
 BUFFER_SIZE, BUFFER_USAGE = 0x8764, 0x8765
+SHORT, INT, FLOAT = 0x1402, 0x1404, 0x1406
+VERTEX_ATTRIB_ARRAY_ENABLED, VERTEX_ATTRIB_ARRAY_STRIDE = 0x8622, 0x8624
+CURRENT_VERTEX_ATTRIB, VERTEX_ATTRIB_ARRAY_POINTER = 0x8626, 0x8645
+VERTEX_ATTRIB_ARRAY_BUFFER_BINDING = 0x889F
+UNPACK_ALIGNMENT, UNPACK_FLIP_Y_WEBGL = 0x0CF5, 0x9240
+BLEND, CULL_FACE_MODE, FRONT_FACE, DEPTH_WRITEMASK, DEPTH_FUNC = 0x0BE2, 0x0B45, 0x0B46, 0x0B72, 0x0B74
+STENCIL_CLEAR_VALUE, VIEWPORT, SCISSOR_BOX, COLOR_CLEAR_VALUE = 0x0B91, 0x0BA2, 0x0C10, 0x0C22
+COLOR_WRITEMASK, BLEND_COLOR, MAX_TEXTURE_SIZE = 0x0C23, 0x8005, 0x0D33
+FRONT, BACK, FRONT_AND_BACK, CW, ALWAYS, LEQUAL = 0x0404, 0x0405, 0x0408, 0x0900, 0x0207, 0x0203
+FUNC_ADD, FUNC_REVERSE_SUBTRACT, KEEP, REPLACE, INCR_WRAP = 0x8006, 0x800B, 0x1E00, 0x1E01, 0x8507
+SRC_ALPHA, ONE_MINUS_SRC_ALPHA, ONE, ZERO, CONSTANT_COLOR, CONSTANT_ALPHA = 0x0302, 0x0303, 1, 0, 0x8001, 0x8003
 NULL = 0
 
 
@@ -64,6 +75,118 @@ def get_buffer_parameter(target, name):
     return framed(23, words(target, name))
 
 
+def enable_vertex_attrib_array(index):
+    return framed(24, words(index))
+
+
+def disable_vertex_attrib_array(index):
+    return framed(25, words(index))
+
+
+def vertex_attrib_pointer(index, size, kind, normalized, stride, offset):
+    return framed(26, struct.pack("<IiIIiq", index, size, kind, normalized, stride, offset))
+
+
+def vertex_attrib(index, *floats):
+    return framed(27, struct.pack("<I4f", index, *floats))
+
+
+def get_vertex_attrib(index, name):
+    return framed(28, words(index, name))
+
+
+def get_vertex_attrib_offset(index, name):
+    return framed(29, words(index, name))
+
+
+def pixel_store(name, value):
+    return framed(56, words(name) + struct.pack("<i", value))
+
+
+def enable(capability):
+    return framed(65, words(capability))
+
+
+def disable(capability):
+    return framed(66, words(capability))
+
+
+def is_enabled(capability):
+    return framed(67, words(capability))
+
+
+def blend_color(*floats):
+    return framed(68, struct.pack("<4f", *floats))
+
+
+def blend_equation_separate(rgb, alpha):
+    return framed(69, words(rgb, alpha))
+
+
+def blend_func_separate(*factors):
+    return framed(70, words(*factors))
+
+
+def color_mask(*flags):
+    return framed(71, words(*flags))
+
+
+def depth_func(comparison):
+    return framed(72, words(comparison))
+
+
+def depth_mask(flag):
+    return framed(73, words(flag))
+
+
+def stencil_func_separate(face, comparison, reference, mask):
+    return framed(74, struct.pack("<IIiI", face, comparison, reference, mask))
+
+
+def stencil_mask_separate(face, mask):
+    return framed(75, words(face, mask))
+
+
+def stencil_op_separate(face, *operations):
+    return framed(76, words(face, *operations))
+
+
+def cull_face(sides):
+    return framed(77, words(sides))
+
+
+def front_face(winding):
+    return framed(78, words(winding))
+
+
+def viewport(*box):
+    return framed(79, struct.pack("<4i", *box))
+
+
+def scissor(*box):
+    return framed(80, struct.pack("<4i", *box))
+
+
+def clear_color(*floats):
+    return framed(81, struct.pack("<4f", *floats))
+
+
+def clear_stencil(value):
+    return framed(82, struct.pack("<i", value))
+
+
+def get_parameter(name):
+    return framed(87, words(name))
+
+
+def flush():
+    return framed(88, b"")
+
+
+def finish():
+    return framed(89, b"")
+
+
 def get_error():
     return framed(86, b"")
 
@@ -79,6 +202,10 @@ def done():
 
 def number(value):
     return words(NO_ERROR, 1, value)
+
+
+def several(*values):
+    return words(NO_ERROR, 2, len(values), *values)
 
 
 def refused(code):
@@ -213,10 +340,105 @@ DELETION = [
 ]
 
 
+# An attribute takes its values from a buffer, until the buffer is deleted. None of these calls sends a command.
+ATTRIBUTES = [
+    (create_buffer(), number(1), [make_buffer_command(3)]),
+    # an offset without a buffer
+    (vertex_attrib_pointer(2, 3, FLOAT, 0, 16, 4), refused(INVALID_OPERATION), []),
+    (bind_buffer(ARRAY_BUFFER, 1), done(), [bind_buffer_command(ARRAY_BUFFER, 3)]),
+    (vertex_attrib_pointer(2, 3, FLOAT, 0, 16, 4), done(), []),
+    (enable_vertex_attrib_array(2), done(), []),
+    # there is no attribute 16, INT is no type, 256 is too large a stride, and 6 is no multiple of a float's size
+    (enable_vertex_attrib_array(16), refused(INVALID_VALUE), []),
+    (vertex_attrib_pointer(2, 3, INT, 0, 256, 4), refused(INVALID_ENUM), []),
+    (vertex_attrib_pointer(2, 3, SHORT, 0, 256, 4), refused(INVALID_VALUE), []),
+    (vertex_attrib_pointer(2, 3, FLOAT, 0, 6, 4), refused(INVALID_OPERATION), []),
+    (get_vertex_attrib(2, VERTEX_ATTRIB_ARRAY_ENABLED), number(1), []),
+    (get_vertex_attrib(2, VERTEX_ATTRIB_ARRAY_STRIDE), number(16), []),
+    (get_vertex_attrib_offset(2, VERTEX_ATTRIB_ARRAY_POINTER), several(4, 0), []),
+    (get_vertex_attrib(2, VERTEX_ATTRIB_ARRAY_BUFFER_BINDING), number(1), []),
+    # a disabled array stays in its buffer, up to the delete of the buffer; the rest stays then too
+    (disable_vertex_attrib_array(2), done(), []),
+    (get_vertex_attrib(2, VERTEX_ATTRIB_ARRAY_BUFFER_BINDING), number(1), []),
+    (delete_buffer(1), done(), [drop_buffer_command(3)]),
+    (get_vertex_attrib(2, VERTEX_ATTRIB_ARRAY_BUFFER_BINDING), number(0), []),
+    (get_vertex_attrib_offset(2, VERTEX_ATTRIB_ARRAY_POINTER), several(4, 0), []),
+    # the words of a constant are kept as they are
+    (vertex_attrib(2, 1.0, -0.5, float("inf"), -0.0), done(), []),
+    (get_vertex_attrib(2, CURRENT_VERTEX_ATTRIB), several(0x3F800000, 0xBF000000, 0x7F800000, 0x80000000), []),
+    (get_vertex_attrib(3, CURRENT_VERTEX_ATTRIB), several(0, 0, 0, 0x3F800000), []),
+    (get_error(), number(INVALID_ENUM), []),
+    (get_error(), number(INVALID_VALUE), []),
+    (get_error(), number(INVALID_OPERATION), []),
+    (get_error(), number(NO_ERROR), []),
+]
+
+
+# Every call that only sets or returns state, once at least. None sends a command before something is drawn.
+STATE = [
+    (enable_vertex_attrib_array(15), done(), []),
+    (vertex_attrib_pointer(15, 4, FLOAT, 1, 0, 0), done(), []),
+    (vertex_attrib(1, 0.5, -0.5, 2.0, 1.0), done(), []),
+    (get_vertex_attrib(1, CURRENT_VERTEX_ATTRIB), several(0x3F000000, 0xBF000000, 0x40000000, 0x3F800000), []),
+    (get_vertex_attrib_offset(15, VERTEX_ATTRIB_ARRAY_POINTER), several(0, 0), []),
+    (get_vertex_attrib(15, VERTEX_ATTRIB_ARRAY_ENABLED), number(1), []),
+    (disable_vertex_attrib_array(15), done(), []),
+    (get_vertex_attrib(15, VERTEX_ATTRIB_ARRAY_ENABLED), number(0), []),
+    # 3 is no alignment; any number but 0 turns the rows round
+    (pixel_store(UNPACK_ALIGNMENT, 1), done(), []),
+    (pixel_store(UNPACK_ALIGNMENT, 3), refused(INVALID_VALUE), []),
+    (pixel_store(UNPACK_FLIP_Y_WEBGL, -1), done(), []),
+    (get_parameter(UNPACK_ALIGNMENT), number(1), []),
+    (get_parameter(UNPACK_FLIP_Y_WEBGL), number(1), []),
+    (enable(BLEND), done(), []),
+    (is_enabled(BLEND), number(1), []),
+    (disable(BLEND), done(), []),
+    (is_enabled(BLEND), number(0), []),
+    (blend_color(1.0, -0.0, float("inf"), 0.25), done(), []),
+    (get_parameter(BLEND_COLOR), several(0x3F800000, 0x80000000, 0x7F800000, 0x3E800000), []),
+    (blend_equation_separate(FUNC_ADD, FUNC_REVERSE_SUBTRACT), done(), []),
+    (blend_func_separate(SRC_ALPHA, ONE_MINUS_SRC_ALPHA, ONE, ZERO), done(), []),
+    # the constant colour and the constant alpha value don't go together
+    (blend_func_separate(CONSTANT_COLOR, CONSTANT_ALPHA, ONE, ZERO), refused(INVALID_OPERATION), []),
+    (color_mask(1, 0, 2, 0), done(), []),
+    (get_parameter(COLOR_WRITEMASK), several(1, 0, 1, 0), []),
+    (depth_func(LEQUAL), done(), []),
+    (get_parameter(DEPTH_FUNC), number(LEQUAL), []),
+    (depth_mask(0), done(), []),
+    (get_parameter(DEPTH_WRITEMASK), number(0), []),
+    (stencil_func_separate(FRONT_AND_BACK, ALWAYS, -1, 0xFF), done(), []),
+    (stencil_mask_separate(FRONT, 0x0F), done(), []),
+    (stencil_op_separate(BACK, KEEP, REPLACE, INCR_WRAP), done(), []),
+    (stencil_op_separate(BACK, KEEP, REPLACE, 1), refused(INVALID_ENUM), []),
+    (cull_face(FRONT_AND_BACK), done(), []),
+    (get_parameter(CULL_FACE_MODE), number(FRONT_AND_BACK), []),
+    (front_face(CW), done(), []),
+    (get_parameter(FRONT_FACE), number(CW), []),
+    (viewport(-1, 2, 640, 480), done(), []),
+    (get_parameter(VIEWPORT), several(0xFFFFFFFF, 2, 640, 480), []),
+    (scissor(0, 0, -1, 5), refused(INVALID_VALUE), []),
+    (scissor(1, 2, 3, 4), done(), []),
+    (get_parameter(SCISSOR_BOX), several(1, 2, 3, 4), []),
+    (clear_color(0.0, 0.5, 1.0, 1.0), done(), []),
+    (get_parameter(COLOR_CLEAR_VALUE), several(0, 0x3F000000, 0x3F800000, 0x3F800000), []),
+    (clear_stencil(-2), done(), []),
+    (get_parameter(STENCIL_CLEAR_VALUE), number(0xFFFFFFFE), []),
+    (get_parameter(MAX_TEXTURE_SIZE), number(2048), []),
+    (get_parameter(1), refused(INVALID_ENUM), []),
+    (flush(), done(), []),
+    (finish(), done(), []),
+    (get_error(), number(INVALID_ENUM), []),
+    (get_error(), number(INVALID_VALUE), []),
+    (get_error(), number(INVALID_OPERATION), []),
+    (get_error(), number(NO_ERROR), []),
+]
+
+
 def main():
     here = pathlib.Path(__file__).parent
     folder = pathlib.Path(sys.argv[1]) if len(sys.argv) > 1 else here
-    for name, calls in (("buffers", BUFFERS), ("refusals", REFUSALS), ("deletion", DELETION)):
+    examples = {"buffers": BUFFERS, "refusals": REFUSALS, "deletion": DELETION, "attributes": ATTRIBUTES, "state": STATE}
+    for name, calls in examples.items():
         records = [record for record, _, _ in calls]
         replies = [reply for _, reply, _ in calls]
         commands = [command for _, _, some in calls for command in some]

@@ -16,12 +16,8 @@ use Rattle.buffer_store.specs.Content.{size_of, buffer_of}
 use Rattle.buffer_store.specs.StoredBuffer.{view_of, with_first, with_bytes}
 use Rattle.buffer_store.specs.Stored.{Stored, changed, found}
 
--- a call returns the error of the first rule that applies, and Ok where none does
-abbrev pub Judged : List Rule → Result (Unit {0}) GlError → Type 0
-Judged rules (Ok _) = first_refusal rules ≡ None
-Judged rules (Err error) = first_refusal rules ≡ Some error
-
--- the same of a call that may run out of memory, for the bytes of an element buffer alone and where no rule applies
+-- a call returns the error of the first rule that applies, or runs out of memory for the bytes of an element buffer, where no rule
+-- applies, and Ok else
 abbrev pub JudgedOrRunsOut : BufferTarget → List Rule → Result (Unit {0}) GlError → Type 0
 JudgedOrRunsOut target rules (Ok _) = first_refusal rules ≡ None
 JudgedOrRunsOut target rules (Err Memory) = (first_refusal rules ≡ None) × (target ≡ ElementArray)

@@ -7,10 +7,11 @@ ghost use Rattle.gl_numbers.specs.BufferWords.{usage_word};
 ghost use Rattle.gl_numbers.specs.BufferBindings.{binding};
 ghost use Rattle.gl_numbers.specs.BufferRules.{is_negative, whole};
 ghost use Rattle.gl_numbers.specs.Limits.{buffer_bytes_max};
+ghost use Rattle.gl_numbers.specs.Refusals.{Judged};
 ghost use Rattle.buffer_store.specs.StoredBuffer.{IsSound, new_stored};
 ghost use Rattle.buffer_store.specs.Content.{HasShortBytes};
 ghost use Rattle.buffer_store.specs.Stored.{IsBoundFirst, IsOf, nothing_stored};
-ghost use Rattle.buffer_store.specs.Rules.{Judged, JudgedOrRunsOut, bind_rules, bound_to_target, data_rules, filled, patched, sub_data_rules, without_buffer};
+ghost use Rattle.buffer_store.specs.Rules.{JudgedOrRunsOut, bind_rules, bound_to_target, data_rules, filled, patched, sub_data_rules, without_buffer};
 
 use crate::Content;
 use crate::by_handle::ByHandle;

@@ -2,9 +2,9 @@ ghost use Rattle.std.specs.Prelude.{◌≡◌, ◌+◌, ◌<◌, Some, None, [],
 ghost use Rattle.std.specs.Option.{option_copied, option_map};
 ghost use Rattle.std.specs.FinMap.{empty, get, insert, remove};
 ghost use Rattle.gl_numbers.specs.BufferRules.{other_target};
+ghost use Rattle.gl_numbers.specs.Refusals.{Judged};
 ghost use Rattle.buffer_store.specs.StoredBuffer.{IsIndexed, view_of, with_bytes, with_first};
 ghost use Rattle.buffer_store.specs.Stored.{IsOf, KeepsFirst, changed_at};
-ghost use Rattle.buffer_store.specs.Rules.{Judged};
 ghost use Rattle.buffer_store.specs.Slots.{shelf_of};
 
 use crate::held::Held;

@@ -3,7 +3,7 @@ use Rattle.std.proofs.Common.{◌≡◌, ℕ, ◌+◌, ◌<◌, ◌≤◌, ◌^�
 use Rattle.gl_numbers.specs.Bytes.{le32}
 use Rattle.gl_numbers.specs.Fields.{fields_size, body_encoding}
 use Rattle.gl_numbers.proofs.Bytes.{length-le32, length-le64}
-use Rattle.gl_numbers.proofs.Bodies.{length-body, values_size-fits, body-tail}
+use Rattle.gl_numbers.proofs.Bodies.{length-body, length-le32_signed, values_size-fits, body-tail}
 use Rattle.gl_numbers.proofs.OneRecord.{length-record}
 use Rattle.call_records.specs.declared.operations.TheConstants.{BODY_MAX}
 use Rattle.call_records.specs.declared.calls.Call.{Call}
@@ -17,7 +17,7 @@ length-closing_record = refl
 pub length-encoding : (call : Call) → length (encoding call) ≡ 8 + length (body_of call)
 length-encoding call = length-record row_of (parts_of call)
 
-pub ruleset lengths = (length-le32, length-le64, length-append, length-closing_record, length-encoding)
+pub ruleset lengths = (length-le32, length-le32_signed, length-le64, length-append, length-closing_record, length-encoding)
 
 -- how long the record of a call is, by its row and its tail
 pub record LengthByRow (call : Call) : Type 0 where

@@ -2,7 +2,13 @@ pub mod Numbers
 pub mod RecordBuf
 pub mod ObjectRecords
 pub mod BufferRecords
+pub mod AttribRecords
+pub mod TextureRecords
 pub mod QueryRecords
+pub mod ColorRecords
+pub mod DepthStencilRecords
+pub mod ViewRecords
+pub mod DrawRecords
 pub mod Operations
 pub mod Records
 pub mod Replies

@@ -3,16 +3,28 @@ use Rattle.std.specs.Prelude.{ℕ, Bool, false, Option, Some, None, ◌==◌, if
 use Rattle.gl_numbers.specs.Fields.{TableRow, allows}
 use Rattle.call_records.specs.Numbers.{body_max, closing_number}
 use Rattle.call_records.specs.declared.operations.Operation.{Operation}
-use Rattle.call_records.specs.declared.operations.Operation.TheVariants.{Object, Buffer, Query}
+use Rattle.call_records.specs.declared.operations.Operation.TheVariants.{Object, Buffer, Attrib, Texture, Query, Color, DepthStencil, View, Draw}
 use Rattle.call_records.specs.ObjectRecords.{object_row, object_numbered}
 use Rattle.call_records.specs.BufferRecords.{buffer_row, buffer_numbered}
+use Rattle.call_records.specs.AttribRecords.{attrib_row, attrib_numbered}
+use Rattle.call_records.specs.TextureRecords.{texture_row, texture_numbered}
 use Rattle.call_records.specs.QueryRecords.{query_row, query_numbered}
+use Rattle.call_records.specs.ColorRecords.{color_row, color_numbered}
+use Rattle.call_records.specs.DepthStencilRecords.{depth_stencil_row, depth_stencil_numbered}
+use Rattle.call_records.specs.ViewRecords.{view_row, view_numbered}
+use Rattle.call_records.specs.DrawRecords.{draw_row, draw_numbered}
 
 -- the row of an operation
 abbrev pub row_of : Operation → TableRow
 row_of (Object operation) = object_row operation
 row_of (Buffer operation) = buffer_row operation
+row_of (Attrib operation) = attrib_row operation
+row_of (Texture operation) = texture_row operation
 row_of (Query operation) = query_row operation
+row_of (Color operation) = color_row operation
+row_of (DepthStencil operation) = depth_stencil_row operation
+row_of (View operation) = view_row operation
+row_of (Draw operation) = draw_row operation
 
 -- the operation of one subject, if there is one, else that of the others
 abbrev pub or_else : {O : Type 0} → (O → Operation) → Option O → Option Operation → Option Operation
@@ -22,7 +34,9 @@ or_else subject None others = others
 -- the operation of a number, if the table has one
 unfoldable pub operation_numbered : ℕ → Option Operation
 operation_numbered n =
-    or_else Object (object_numbered n) (or_else Buffer (buffer_numbered n) (or_else Query (query_numbered n) None))
+    or_else Object (object_numbered n) (or_else Buffer (buffer_numbered n) (or_else Attrib (attrib_numbered n)
+    (or_else Texture (texture_numbered n) (or_else Query (query_numbered n) (or_else Color (color_numbered n)
+    (or_else DepthStencil (depth_stencil_numbered n) (or_else View (view_numbered n) (or_else Draw (draw_numbered n) None))))))))
 
 -- whether a body of this length is one of the operation's, if there is one
 abbrev pub allows_body : Option Operation → ℕ → Bool

@@ -7,17 +7,30 @@ use Rattle.call_records.specs.Numbers.{body_max, closing_number, session_version
 use Rattle.call_records.specs.declared.operations.Operation.{Operation}
 use Rattle.call_records.specs.declared.operations.Operation.TheVariants as Op
 use Rattle.call_records.specs.declared.calls.Call.{Call}
-use Rattle.call_records.specs.declared.calls.Call.TheVariants.{Object, Buffer, Query}
+use Rattle.call_records.specs.declared.calls.Call.TheVariants.{Object, Buffer, Attrib, Texture, Query, Raster, Draw}
+use Rattle.call_records.specs.declared.raster_calls.RasterCall.TheVariants.{Color, DepthStencil, View}
 use Rattle.call_records.specs.ObjectRecords.{object_parts}
 use Rattle.call_records.specs.BufferRecords.{buffer_parts}
+use Rattle.call_records.specs.AttribRecords.{attrib_parts}
+use Rattle.call_records.specs.TextureRecords.{texture_parts}
 use Rattle.call_records.specs.QueryRecords.{query_parts}
+use Rattle.call_records.specs.ColorRecords.{color_parts}
+use Rattle.call_records.specs.DepthStencilRecords.{depth_stencil_parts}
+use Rattle.call_records.specs.ViewRecords.{view_parts}
+use Rattle.call_records.specs.DrawRecords.{draw_parts}
 use Rattle.call_records.specs.Operations.{row_of}
 
 -- what a call says, apart from where its tail lies in memory: its operation, the values of its fields, and its tail
 abbrev pub parts_of : Call → Parts Operation
 parts_of (Object call) = among Op.Object (object_parts call)
 parts_of (Buffer call) = among Op.Buffer (buffer_parts call)
+parts_of (Attrib call) = among Op.Attrib (attrib_parts call)
+parts_of (Texture call) = among Op.Texture (texture_parts call)
 parts_of (Query call) = among Op.Query (query_parts call)
+parts_of (Raster (Color call)) = among Op.Color (color_parts call)
+parts_of (Raster (DepthStencil call)) = among Op.DepthStencil (depth_stencil_parts call)
+parts_of (Raster (View call)) = among Op.View (view_parts call)
+parts_of (Draw call) = among Op.Draw (draw_parts call)
 
 -- the operation of a call
 abbrev pub operation_of : Call → Operation

@@ -4,10 +4,17 @@ ghost use Rattle.call_records.specs.declared.operations.TheConstants.{BODY_MAX};
 ghost use Rattle.call_records.specs.Operations.{row_of};
 ghost use Rattle.call_records.specs.Records.{parts_of, operation_of, body_of, encoding, Fits};
 
+use crate::attrib_calls::AttribCall;
 use crate::buffer_calls::BufferCall;
+use crate::color_calls::ColorCall;
+use crate::depth_stencil_calls::DepthStencilCall;
+use crate::draw_calls::DrawCall;
 use crate::object_calls::ObjectCall;
 use crate::operations::{HEADER_BYTES, Operation};
 use crate::query_calls::QueryCall;
+use crate::raster_calls::RasterCall;
+use crate::texture_calls::TextureCall;
+use crate::view_calls::ViewCall;
 use gl_numbers::{FieldBytes, Fields};
 
 /// A recorded call (WebGL 1.0 section 5.14) with its arguments as words, by subject.
@@ -18,8 +25,16 @@ pub enum Call<'a> {
     Object(ObjectCall),
     /// A call about the buffer that is bound to a target.
     Buffer(BufferCall<'a>),
+    /// A call about a vertex attribute.
+    Attrib(AttribCall),
+    /// A call about textures.
+    Texture(TextureCall),
     /// A call that asks for state.
     Query(QueryCall),
+    /// A call that sets raster state.
+    Raster(RasterCall),
+    /// A call that draws, or asks that what was drawn be done.
+    Draw(DrawCall),
 }
 
 impl<'a> Call<'a> {
@@ -55,7 +70,19 @@ impl<'a> Call<'a> {
         match operation {
             Operation::Object(operation) => Call::Object(ObjectCall::read(operation, fields)),
             Operation::Buffer(operation) => Call::Buffer(BufferCall::read(operation, fields)),
+            Operation::Attrib(operation) => Call::Attrib(AttribCall::read(operation, fields)),
+            Operation::Texture(operation) => Call::Texture(TextureCall::read(operation, fields)),
             Operation::Query(operation) => Call::Query(QueryCall::read(operation, fields)),
+            Operation::Color(operation) => {
+                Call::Raster(RasterCall::Color(ColorCall::read(operation, fields)))
+            }
+            Operation::DepthStencil(operation) => {
+                Call::Raster(RasterCall::DepthStencil(DepthStencilCall::read(operation, fields)))
+            }
+            Operation::View(operation) => {
+                Call::Raster(RasterCall::View(ViewCall::read(operation, fields)))
+            }
+            Operation::Draw(operation) => Call::Draw(DrawCall::read(operation, fields)),
         }
     }
 
@@ -67,7 +94,15 @@ impl<'a> Call<'a> {
         match self {
             Call::Object(call) => Operation::Object(call.operation()),
             Call::Buffer(call) => Operation::Buffer(call.operation()),
+            Call::Attrib(call) => Operation::Attrib(call.operation()),
+            Call::Texture(call) => Operation::Texture(call.operation()),
             Call::Query(call) => Operation::Query(call.operation()),
+            Call::Raster(RasterCall::Color(call)) => Operation::Color(call.operation()),
+            Call::Raster(RasterCall::DepthStencil(call)) => {
+                Operation::DepthStencil(call.operation())
+            }
+            Call::Raster(RasterCall::View(call)) => Operation::View(call.operation()),
+            Call::Draw(call) => Operation::Draw(call.operation()),
         }
     }
 
@@ -78,7 +113,13 @@ impl<'a> Call<'a> {
         match self {
             Call::Object(call) => call.fields(),
             Call::Buffer(call) => call.fields(),
+            Call::Attrib(call) => call.fields(),
+            Call::Texture(call) => call.fields(),
             Call::Query(call) => call.fields(),
+            Call::Raster(RasterCall::Color(call)) => call.fields(),
+            Call::Raster(RasterCall::DepthStencil(call)) => call.fields(),
+            Call::Raster(RasterCall::View(call)) => call.fields(),
+            Call::Draw(call) => call.fields(),
         }
     }
 
@@ -88,8 +129,13 @@ impl<'a> Call<'a> {
         ensures { result.now ≡ (parts_of self.now).tail }
     {
         match self {
-            Call::Object(_) | Call::Query(_) => &[],
             Call::Buffer(call) => call.tail(),
+            Call::Object(_)
+            | Call::Attrib(_)
+            | Call::Texture(_)
+            | Call::Query(_)
+            | Call::Raster(_)
+            | Call::Draw(_) => &[],
         }
     }
 }

@@ -1,9 +1,15 @@
 ghost use Rattle.std.specs.Prelude.{◌≡◌, IfSome};
 ghost use Rattle.call_records.specs.Operations.{row_of, operation_numbered};
 
+use crate::attrib_calls::AttribOperation;
 use crate::buffer_calls::BufferOperation;
+use crate::color_calls::ColorOperation;
+use crate::depth_stencil_calls::DepthStencilOperation;
+use crate::draw_calls::DrawOperation;
 use crate::object_calls::ObjectOperation;
 use crate::query_calls::QueryOperation;
+use crate::texture_calls::TextureOperation;
+use crate::view_calls::ViewOperation;
 use gl_numbers::Row;
 
 /// The number of the record that closes a session.
@@ -21,8 +27,20 @@ pub enum Operation {
     Object(ObjectOperation),
     /// An operation of a call about the buffer that is bound to a target.
     Buffer(BufferOperation),
+    /// An operation of a call about a vertex attribute.
+    Attrib(AttribOperation),
+    /// An operation of a call about textures.
+    Texture(TextureOperation),
     /// An operation of a call that asks for state.
     Query(QueryOperation),
+    /// An operation of a call about colours.
+    Color(ColorOperation),
+    /// An operation of a call about depths and stencil values.
+    DepthStencil(DepthStencilOperation),
+    /// An operation of a call about what is drawn at all, and where.
+    View(ViewOperation),
+    /// An operation of a call that draws, or asks that what was drawn be done.
+    Draw(DrawOperation),
 }
 
 impl Operation {
@@ -39,8 +57,26 @@ impl Operation {
         if let Some(operation) = BufferOperation::from_u32(n) {
             return Some(Operation::Buffer(operation));
         }
-        match QueryOperation::from_u32(n) {
-            Some(operation) => Some(Operation::Query(operation)),
+        if let Some(operation) = AttribOperation::from_u32(n) {
+            return Some(Operation::Attrib(operation));
+        }
+        if let Some(operation) = TextureOperation::from_u32(n) {
+            return Some(Operation::Texture(operation));
+        }
+        if let Some(operation) = QueryOperation::from_u32(n) {
+            return Some(Operation::Query(operation));
+        }
+        if let Some(operation) = ColorOperation::from_u32(n) {
+            return Some(Operation::Color(operation));
+        }
+        if let Some(operation) = DepthStencilOperation::from_u32(n) {
+            return Some(Operation::DepthStencil(operation));
+        }
+        if let Some(operation) = ViewOperation::from_u32(n) {
+            return Some(Operation::View(operation));
+        }
+        match DrawOperation::from_u32(n) {
+            Some(operation) => Some(Operation::Draw(operation)),
             None => None,
         }
     }
@@ -53,7 +89,13 @@ impl Operation {
         match self {
             Operation::Object(operation) => operation.row(),
             Operation::Buffer(operation) => operation.row(),
+            Operation::Attrib(operation) => operation.row(),
+            Operation::Texture(operation) => operation.row(),
             Operation::Query(operation) => operation.row(),
+            Operation::Color(operation) => operation.row(),
+            Operation::DepthStencil(operation) => operation.row(),
+            Operation::View(operation) => operation.row(),
+            Operation::Draw(operation) => operation.row(),
         }
     }
 }

@@ -3,20 +3,28 @@ ghost use Rattle.gl_numbers.specs.Fields.{allows, body_encoding, ReadsRow};
 ghost use Rattle.call_records.specs.declared.operations.TheConstants.{BODY_MAX};
 ghost use Rattle.call_records.specs.QueryRecords.{query_row, query_numbered, query_parts};
 
-use gl_numbers::{FieldBytes, Fields, Row, Tail};
+use gl_numbers::{Field, FieldBytes, Fields, Letter, Row, Tail};
 
 /// A call that asks for state (WebGL 1.0 section 5.14.3).
 #[derive(Clone, Copy, Debug, PartialEq, Eq)]
 pub enum QueryCall {
+    /// isEnabled
+    IsEnabled(u32),
     /// getError
     GetError,
+    /// getParameter
+    GetParameter(u32),
 }
 
 /// The operations of these calls, with their numbers in the record table.
 #[derive(Clone, Copy)]
 pub enum QueryOperation {
+    /// isEnabled: capability.
+    IsEnabled = 67,
     /// getError
     GetError = 86,
+    /// getParameter: parameter name.
+    GetParameter = 87,
 }
 
 impl QueryOperation {
@@ -28,7 +36,9 @@ impl QueryOperation {
         ensures number { IfSome result (λ operation. (query_row operation).number ≡ n) }
     {
         match n {
+            _ if n == Self::IsEnabled as u32 => Some(Self::IsEnabled),
             _ if n == Self::GetError as u32 => Some(Self::GetError),
+            _ if n == Self::GetParameter as u32 => Some(Self::GetParameter),
             _ => None,
         }
     }
@@ -40,7 +50,9 @@ impl QueryOperation {
     {
         let number = self as u32;
         match self {
+            Self::IsEnabled => Row::new(number, "isEnabled", &[Letter::U], Tail::Nothing),
             Self::GetError => Row::new(number, "getError", &[], Tail::Nothing),
+            Self::GetParameter => Row::new(number, "getParameter", &[Letter::U], Tail::Nothing),
         }
     }
 }
@@ -53,7 +65,9 @@ impl QueryCall {
         ensures { ReadsRow query_row operation fields.old fields.new (query_parts result) }
     {
         match operation {
+            QueryOperation::IsEnabled => QueryCall::IsEnabled(fields.word()),
             QueryOperation::GetError => QueryCall::GetError,
+            QueryOperation::GetParameter => QueryCall::GetParameter(fields.word()),
         }
     }
 
@@ -63,7 +77,9 @@ impl QueryCall {
         ensures { result ≡ (query_parts self.now).operation }
     {
         match self {
+            QueryCall::IsEnabled(_) => QueryOperation::IsEnabled,
             QueryCall::GetError => QueryOperation::GetError,
+            QueryCall::GetParameter(_) => QueryOperation::GetParameter,
         }
     }
 
@@ -72,6 +88,9 @@ impl QueryCall {
         ensures { result ≡ body_encoding (query_parts self.now).values [] }
     {
         match self {
+            QueryCall::IsEnabled(word) | QueryCall::GetParameter(word) => {
+                FieldBytes::of(&[Field::Word(*word)])
+            }
             QueryCall::GetError => FieldBytes::of(&[]),
         }
     }

@@ -8,7 +8,12 @@ use std::alloc::AllocError;
 use std::test::Fail;
 use wire_io::{MemSink, MemSource};
 
-fn source(rt: &HostRuntime, bytes: &[u8], fail: &[u64]) -> Result<MemSource, AllocError> {
+/// A source of these bytes, whose calls of these numbers fail.
+pub(crate) fn source(
+    rt: &HostRuntime,
+    bytes: &[u8],
+    fail: &[u64],
+) -> Result<MemSource, AllocError> {
     Ok(MemSource::new(bytes.to_vec(rt.alloc())?, fail.to_vec(rt.alloc())?))
 }
 
@@ -31,7 +36,7 @@ fn writes(rt: &HostRuntime, call: &Call<'_>, bytes: &[u8]) -> Result<bool, Alloc
 
 /// Whether these bytes are read as the call, and cut anywhere are truncated at their length, and the call is
 /// written as these bytes.
-fn stands_for(
+pub(crate) fn stands_for(
     rt: &HostRuntime,
     buf: &mut RecordBuf,
     record: &[u8],
@@ -222,9 +227,21 @@ fn a_body_shorter_or_longer_than_its_fields_is_refused(rt: HostRuntime) -> Resul
         (22, 11),
         (23, 7),
         (23, 9),
+        (24, 3),
+        (24, 5),
+        (25, 3),
+        (25, 5),
+        (26, 27),
+        (26, 29),
+        (27, 19),
+        (27, 21),
+        (28, 7),
+        (28, 9),
+        (29, 7),
+        (29, 9),
         (86, 1),
     ] {
-        let mut record = [0u8; 32];
+        let mut record = [0u8; 40];
         record[0] = operation;
         record[4] = len;
         let mut input = source(&rt, &record, &[])?;

@@ -9,8 +9,8 @@ use Rattle.gl_numbers.specs.declared.errors.GlError.{GlError}
 use Rattle.gl_numbers.specs.declared.framebuffer_words.Point.{Point}
 use Rattle.gl_numbers.specs.declared.framebuffer_words.Point.TheVariants.{Color, Depth, Stencil, DepthStencil}
 use Rattle.gl_numbers.specs.FramebufferWords.{is_renderbuffer_format, rgba4}
+use Rattle.gl_numbers.specs.Limits.{image_side_max}
 use Rattle.gl_numbers.specs.Refusals.{Rule, first_refusal, invalid_enum, invalid_value, when}
-use Rattle.texel_rules.specs.Levels.{texture_side_max}
 use Rattle.framebuffer_rules.specs.declared.images.Image.{Image}
 use Rattle.framebuffer_rules.specs.declared.images.ImageInfo.{ImageInfo}
 use Rattle.framebuffer_rules.specs.declared.targets.Storage.{Storage}
@@ -51,7 +51,7 @@ added kind h s = s
 
 -- whether a side of a renderbuffer is allowed, in texels: from 0 to 2,048
 abbrev pub is_side : ℤ → Bool
-is_side (pos n) = nat_le n texture_side_max
+is_side (pos n) = nat_le n image_side_max
 is_side (negsuc n) = false
 
 -- an allowed side as a number

@@ -4,11 +4,12 @@ ghost use Rattle.gl_numbers.specs.declared.kinds.Kind.TheVariants.{Framebuffer, 
 ghost use Rattle.framebuffer_rules.specs.Targets.{Answers, added, at_point, image_at, info_at, is_target, no_targets, put_at, side_of, storage_refusal, with_image, with_storage, without};
 
 use crate::{Image, ImageInfo};
-use gl_numbers::{GlError, Handle, Kind, Memory, Point, RGBA4, is_renderbuffer_format};
+use gl_numbers::{
+    GlError, Handle, IMAGE_SIDE_MAX, Kind, Memory, Point, RGBA4, is_renderbuffer_format,
+};
 use std::alloc::Global;
 use std::collections::BTreeMap;
 use std::marker::Model;
-use texel_rules::TEXTURE_SIDE_MAX;
 
 /// What a renderbuffer stores: its format as a GL word, and its sides in texels.
 #[derive(Clone, Copy)]
@@ -226,7 +227,7 @@ fn side(z: i32) -> Option<u32>
     ensures { result ≡ side_of z }
 {
     match u32::try_from(z) {
-        Ok(n) if n <= TEXTURE_SIDE_MAX => Some(n),
+        Ok(n) if n <= IMAGE_SIDE_MAX => Some(n),
         _ => None,
     }
 }

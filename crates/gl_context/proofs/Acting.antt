@@ -24,6 +24,8 @@ use Rattle.buffer_store.specs.Content.{size_of, bytes_of, buffer_of}
 use Rattle.buffer_store.specs.StoredBuffer.{new_stored, with_first, with_bytes}
 use Rattle.buffer_store.specs.Stored.{Shelf, Stored, changed}
 use Rattle.buffer_store.specs.Rules as store
+use Rattle.attrib_state.specs.Attributes.{Attributes}
+use Rattle.attrib_state.specs.Effects as attribs
 use Rattle.call_records.specs.declared.buffer_calls.Fill.{Fill}
 use Rattle.call_records.specs.declared.buffer_calls.Fill.TheVariants.{Size, Bytes}
 use Rattle.gl_model.specs.Buffers.{Buffer, view_of, take_target, take_data, patch}
@@ -36,7 +38,7 @@ use Rattle.gl_context.specs.BufferRows.{bind_row, data_row, sub_data_row, fill_r
 use Rattle.gl_context.specs.Filled.{Fills}
 use Rattle.gl_context.specs.Stands.{Kept, Keeps, KeepsBuffers, stored_buffer, IsSoundBuffer, AreSoundBuffers, IsSound}
 use Rattle.gl_context.proofs.Keeping.{Stores, stores-make, stores-drop, stores-changed, stores-same, stores-if_bound, stores-same_bound, bound-changed_bound, view-stored, bound_view-stored, names-made, names-marked}
-use Rattle.gl_context.proofs.Parts.{keeps-buffers, keeps-objects}
+use Rattle.gl_context.proofs.Parts.{keeps-attributes, keeps-buffers, keeps-objects}
 use Rattle.gl_context.proofs.Sounding.{first-some, length-patch}
 
 -- what isn't there is none
@@ -272,10 +274,13 @@ pub acts-delete : (kept : Kept) (w : PageState) (room : Option Kind) (handle : �
     → Keeps (record kept {
       names = record { objects = changed_object kept.names.objects handle Names.marked; room = room };
       buffers = store.without_buffer kept.buffers handle;
+      attributes = attribs.without_buffer kept.attributes handle;
     }) (delete_row w object.Buffer handle).next
 acts-delete kept w room handle k live =
     let bufs : KeepsBuffers (store.without_buffer kept.buffers handle) (drop_buffer handle w.buffers) = record {
       each = stores-drop kept.buffers.buffers w.buffers handle k.buffers.each;
       bound = ap (unbind handle) k.buffers.bound;
     } in
-    rw live (keeps-objects kept w _ (store.without_buffer kept.buffers handle) _ _ k (names-marked kept.names w.objects (holders w) handle room k.names) bufs)
+    let named = names-marked kept.names w.objects (holders w) handle room k.names in
+    let objects = keeps-objects kept w _ (store.without_buffer kept.buffers handle) _ _ k named bufs in
+    rw live (keeps-attributes _ _ _ _ objects (ap (λ (a : Attributes). attribs.without_buffer a handle) k.attributes))

@@ -9,3 +9,4 @@ pub mod Acting
 pub mod First
 pub mod Following
 pub mod Steps
+mod Fours

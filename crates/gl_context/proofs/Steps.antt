@@ -14,11 +14,17 @@ use Rattle.call_records.specs.declared.calls.Call.{Call}
 use Rattle.call_records.specs.declared.calls.Call.TheVariants as call
 use Rattle.call_records.specs.declared.buffer_calls.BufferCall.{BufferCall}
 use Rattle.call_records.specs.declared.buffer_calls.BufferCall.TheVariants.{BindBuffer, BufferData, BufferSubData, GetBufferParameter}
+use Rattle.call_records.specs.declared.attrib_calls.AttribCall.{AttribCall}
+use Rattle.call_records.specs.declared.attrib_calls.AttribCall.TheVariants.{AttribArray, VertexAttribPointer, VertexAttrib, GetVertexAttrib, GetVertexAttribOffset}
+use Rattle.call_records.specs.declared.draw_calls.DrawCall.{DrawCall}
+use Rattle.call_records.specs.declared.draw_calls.DrawCall.TheVariants.{Finish}
 use Rattle.call_records.specs.declared.object_calls.ObjectCall.{ObjectCall}
 use Rattle.call_records.specs.declared.object_calls.ObjectCall.TheVariants.{Create, Delete, IsKind}
 use Rattle.call_records.specs.declared.object_calls.New.TheVariants as new
 use Rattle.call_records.specs.declared.query_calls.QueryCall.{QueryCall}
-use Rattle.call_records.specs.declared.query_calls.QueryCall.TheVariants.{GetError}
+use Rattle.call_records.specs.declared.query_calls.QueryCall.TheVariants.{IsEnabled, GetError, GetParameter}
+use Rattle.call_records.specs.declared.texture_calls.TextureCall.{TextureCall}
+use Rattle.call_records.specs.declared.texture_calls.TextureCall.TheVariants.{PixelStorei}
 use Rattle.call_records.specs.declared.replies.Value.TheVariants.{Nothing}
 use Rattle.call_records.specs.declared.replies.Reply.{Reply}
 use Rattle.command_stream.specs.declared.command.Command.{Command}
@@ -31,7 +37,11 @@ use Rattle.gl_context.specs.Row.{Stepped, raised, refusal_of, step_judged}
 use Rattle.gl_context.specs.PageStep.{row_of, step, MayBeOutOfMemory, is_out_of_memory}
 use Rattle.gl_context.specs.ObjectRows.{object_row}
 use Rattle.gl_context.specs.BufferRows.{buffer_row}
+use Rattle.gl_context.specs.AttribRows.{attrib_row}
+use Rattle.gl_context.specs.TextureRows.{texture_row}
 use Rattle.gl_context.specs.QueryRows.{query_row}
+use Rattle.gl_context.specs.RasterRows.{raster_row}
+use Rattle.gl_context.specs.DrawRows.{draw_row}
 use Rattle.gl_context.specs.Sent.{sent}
 use Rattle.gl_context.specs.Follows.{IsGood}
 use Rattle.gl_context.specs.Deeds.{HasReason}
@@ -55,15 +65,38 @@ good-buffer w g (BufferData target usage fill) sound agrees fits unrefused = goo
 good-buffer w g (BufferSubData target offset bytes) sound agrees fits unrefused = good-sub_data w g target offset bytes sound agrees fits unrefused
 good-buffer w g (GetBufferParameter target name) sound agrees fits unrefused = good-quiet g (buffer_row w (GetBufferParameter target name)) sound agrees refl refl
 
+-- each call on vertex attributes is good
+good-attrib : (w : PageState) (g : DriverState) (c : AttribCall) → IsSound w → Agrees w g → IsGood g (attrib_row w c)
+good-attrib w g (AttribArray index on) sound agrees = good-quiet g (attrib_row w (AttribArray index on)) sound agrees refl refl
+good-attrib w g (VertexAttribPointer index size kind normalized stride offset) sound agrees =
+    good-quiet g (attrib_row w (VertexAttribPointer index size kind normalized stride offset)) sound agrees refl refl
+good-attrib w g (VertexAttrib index x y z w') sound agrees = good-quiet g (attrib_row w (VertexAttrib index x y z w')) sound agrees refl refl
+good-attrib w g (GetVertexAttrib index name) sound agrees = good-quiet g (attrib_row w (GetVertexAttrib index name)) sound agrees refl refl
+good-attrib w g (GetVertexAttribOffset index name) sound agrees = good-quiet g (attrib_row w (GetVertexAttribOffset index name)) sound agrees refl refl
+
 -- each query is good
 good-query : (w : PageState) (g : DriverState) (c : QueryCall) → IsSound w → Agrees w g → IsGood g (query_row w c)
+good-query w g (IsEnabled word) sound agrees = good-quiet g (query_row w (IsEnabled word)) sound agrees refl refl
 good-query w g GetError sound agrees = good-quiet g (query_row w GetError) sound agrees refl refl
+good-query w g (GetParameter word) sound agrees = good-quiet g (query_row w (GetParameter word)) sound agrees refl refl
+
+-- each call on textures is good
+good-texture : (w : PageState) (g : DriverState) (c : TextureCall) → IsSound w → Agrees w g → IsGood g (texture_row w c)
+good-texture w g (PixelStorei name value) sound agrees = good-quiet g (texture_row w (PixelStorei name value)) sound agrees refl refl
+
+-- each call that draws, or asks that what was drawn be done, is good
+good-draw : (w : PageState) (g : DriverState) (c : DrawCall) → IsSound w → Agrees w g → IsGood g (draw_row w c)
+good-draw w g (Finish waits) sound agrees = good-quiet g (draw_row w (Finish waits)) sound agrees refl refl
 
 -- each call that acts is good
 pub good-call : (w : PageState) (g : DriverState) (c : Call) → IsSound w → Agrees w g → Fits c → refusal_of (row_of w c) ≡ None → IsGood g (row_of w c)
 good-call w g (call.Object c) sound agrees fits unrefused = good-object w g c sound agrees unrefused
 good-call w g (call.Buffer c) sound agrees fits unrefused = good-buffer w g c sound agrees fits unrefused
+good-call w g (call.Attrib c) sound agrees fits unrefused = good-attrib w g c sound agrees
+good-call w g (call.Texture c) sound agrees fits unrefused = good-texture w g c sound agrees
 good-call w g (call.Query c) sound agrees fits unrefused = good-query w g c sound agrees
+good-call w g (call.Raster c) sound agrees fits unrefused = good-quiet g (raster_row w c) sound agrees refl refl
+good-call w g (call.Draw c) sound agrees fits unrefused = good-draw w g c sound agrees
 
 -- the errors that rules raise aren't OUT_OF_MEMORY
 other-code : (rules : List Rule) (error : GlError) → first_refusal rules ≡ Some error → (code_of error == 1285) ≡ false

@@ -6,7 +6,12 @@ use Rattle.gl_numbers.specs.declared.kinds.Kind.TheVariants.{Buffer, Texture, Re
 use Rattle.object_names.specs.Objects as Names
 use Rattle.buffer_store.specs.Stored.{Stored}
 use Rattle.buffer_store.specs.Codes.{stored_code}
+use Rattle.attrib_state.specs.Attributes.{Attributes}
+use Rattle.attrib_state.specs.Codes.{attributes_code}
+use Rattle.raster_state.specs.declared.words.RasterWords.{RasterWords}
+use Rattle.raster_state.specs.Codes.{words_code}
 use Rattle.gl_model.specs.Errors.{ErrorSet}
+use Rattle.gl_model.specs.PixelStore.{PixelStore}
 use Rattle.gl_context.specs.Stands.{Kept}
 
 -- a number for each kind of object
@@ -66,9 +71,33 @@ errors_code =
       invalid_framebuffer_operation = p.1.1.1.1;
     }) (λ _. refl)
 
--- what a context keeps is coded by its names, its buffers, its error flags, and whether a write failed
+-- the pixel store is coded by its parts
+abbrev pub pixels_code : Coded PixelStore
+pixels_code =
+    code_by (ℕ × (ℕ × (Bool × (Bool × ℕ)))) (coded× coded_ℕ (coded× coded_ℕ (coded× coded_bool (coded× coded_bool coded_ℕ))))
+    (λ s. (s.unpack_alignment, (s.pack_alignment, (s.flip_y, (s.premultiply_alpha, s.colorspace_conversion)))))
+    (λ p. record {
+      unpack_alignment = p.0;
+      pack_alignment = p.1.0;
+      flip_y = p.1.1.0;
+      premultiply_alpha = p.1.1.1.0;
+      colorspace_conversion = p.1.1.1.1;
+    }) (λ _. refl)
+
+-- what a context keeps is coded by its names, its buffers, its attributes, its pixel store, its error flags, its raster state, and
+-- whether a write failed
 abbrev pub kept_code : Coded Kept
 kept_code =
-    code_by (Names.Given × (Stored × (ErrorSet × Bool))) (coded× given_code (coded× stored_code (coded× errors_code coded_bool)))
-    (λ k. (k.names, (k.buffers, (k.errors, k.failed))))
-    (λ p. record { names = p.0; buffers = p.1.0; errors = p.1.1.0; failed = p.1.1.1 }) (λ _. refl)
+    code_by (Names.Given × (Stored × (Attributes × (PixelStore × (ErrorSet × (RasterWords × Bool))))))
+    (coded× given_code
+    (coded× stored_code (coded× attributes_code (coded× pixels_code (coded× errors_code (coded× words_code coded_bool))))))
+    (λ k. (k.names, (k.buffers, (k.attributes, (k.pixels, (k.errors, (k.raster, k.failed)))))))
+    (λ p. record {
+      names = p.0;
+      buffers = p.1.0;
+      attributes = p.1.1.0;
+      pixels = p.1.1.1.0;
+      errors = p.1.1.1.1.0;
+      raster = p.1.1.1.1.1.0;
+      failed = p.1.1.1.1.1.1;
+    }) (λ _. refl)

@@ -1,7 +1,12 @@
 pub mod Row
 pub mod ObjectRows
 pub mod BufferRows
+pub mod AttribRows
+pub mod TextureRows
+pub mod ParameterValues
 pub mod QueryRows
+pub mod RasterRows
+pub mod DrawRows
 pub mod PageStep
 pub mod PageRun
 pub mod Sent

@@ -14,6 +14,7 @@ use Rattle.call_records.specs.declared.replies.Value.TheVariants.{Number}
 use Rattle.command_stream.specs.declared.command.Command.{Command}
 use Rattle.command_stream.specs.declared.command.Command.TheVariants as command
 use Rattle.command_stream.specs.declared.object_commands.ObjectCommand.TheVariants.{MakeBuffer, DropBuffer}
+use Rattle.attrib_state.specs.Effects.{without_buffer}
 use Rattle.gl_model.specs.BufferState.{make_buffer, drop_buffer}
 use Rattle.gl_model.specs.PageState.{PageState, new_object, mark, was_given, is_live}
 use Rattle.object_names.specs.Objects.{driver_name}
@@ -48,7 +49,8 @@ create_row w = record {
 
 -- what the deletion of a live object of a kind does besides marking it
 abbrev pub deleted : ObjectKind → ℕ → PageState → PageState
-deleted Buffer handle w = record w { buffers = drop_buffer handle w.buffers }
+deleted Buffer handle w =
+    record w { buffers = drop_buffer handle w.buffers; attributes = without_buffer w.attributes handle }
 
 -- the commands of that deletion
 abbrev pub drops : ObjectKind → ℕ → List Command

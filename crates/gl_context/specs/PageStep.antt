@@ -2,19 +2,27 @@
 use Rattle.std.specs.Prelude.{◌≡◌, Bool, true, None, ◌==◌}
 use Rattle.gl_numbers.specs.Errors.{out_of_memory}
 use Rattle.call_records.specs.declared.calls.Call.{Call}
-use Rattle.call_records.specs.declared.calls.Call.TheVariants.{Object, Buffer, Query}
+use Rattle.call_records.specs.declared.calls.Call.TheVariants.{Object, Buffer, Attrib, Texture, Query, Raster, Draw}
 use Rattle.call_records.specs.declared.replies.Reply.{Reply}
 use Rattle.gl_model.specs.PageState.{PageState}
 use Rattle.gl_context.specs.Row.{Row, Stepped, refusal_of, step_by}
 use Rattle.gl_context.specs.ObjectRows.{object_row}
 use Rattle.gl_context.specs.BufferRows.{buffer_row}
+use Rattle.gl_context.specs.AttribRows.{attrib_row}
+use Rattle.gl_context.specs.TextureRows.{texture_row}
 use Rattle.gl_context.specs.QueryRows.{query_row}
+use Rattle.gl_context.specs.RasterRows.{raster_row}
+use Rattle.gl_context.specs.DrawRows.{draw_row}
 
 -- the row of a call
 abbrev pub row_of : PageState → Call → Row
 row_of w (Object call) = object_row w call
 row_of w (Buffer call) = buffer_row w call
+row_of w (Attrib call) = attrib_row w call
+row_of w (Texture call) = texture_row w call
 row_of w (Query call) = query_row w call
+row_of w (Raster call) = raster_row w call
+row_of w (Draw call) = draw_row w call
 
 -- the step of a call, and whether memory ran out
 abbrev pub step : PageState → Call → Bool → Stepped

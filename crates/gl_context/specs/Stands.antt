@@ -12,17 +12,24 @@ use Rattle.gl_numbers.specs.declared.kinds.Kind.TheVariants as kind
 use Rattle.object_names.specs.Objects as Names
 use Rattle.buffer_store.specs.StoredBuffer.{StoredBuffer}
 use Rattle.buffer_store.specs.Stored.{Stored}
+use Rattle.attrib_state.specs.Attributes.{Attributes}
+use Rattle.raster_state.specs.declared.words.RasterWords.{RasterWords}
 use Rattle.gl_model.specs.Errors.{ErrorSet}
 use Rattle.gl_model.specs.Buffers.{Buffer}
 use Rattle.gl_model.specs.BufferState.{BufferState}
+use Rattle.gl_model.specs.PixelStore.{PixelStore}
 use Rattle.gl_model.specs.PageState.{PageState, Object, holders, lives}
 use Rattle.gl_model.specs.DriverState.{DriverState}
 
--- what a context keeps: the names, the buffers with what is bound, the error flags, and whether a write failed
+-- what a context keeps: the names, the buffers with what is bound, the attributes, the pixel store, the error flags, the raster
+-- state, and whether a write failed
 pub record Kept : Type 0 where
   pub names : Names.Given
   pub buffers : Stored
+  pub attributes : Attributes
+  pub pixels : PixelStore
   pub errors : ErrorSet
+  pub raster : RasterWords
   pub failed : Bool
 
 -- how an object with so many holders is named
@@ -54,7 +61,10 @@ pub record KeepsBuffers (stored : Stored) (s : BufferState) : Type 0 where
 pub record Keeps (kept : Kept) (w : PageState) : Type 0 where
   pub names : KeepsNames kept.names w.objects (holders w)
   pub buffers : KeepsBuffers kept.buffers w.buffers
+  pub attributes : kept.attributes ≡ w.attributes
+  pub pixels : kept.pixels ≡ w.pixels
   pub errors : kept.errors ≡ w.errors
+  pub raster : kept.raster ≡ w.raster
 
 -- a buffer has no more bytes than a buffer may, and none before it was first bound
 pub record IsSoundBuffer (b : Buffer) : Type 0 where

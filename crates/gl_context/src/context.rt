@@ -17,12 +17,15 @@ ghost use Rattle.gl_context.specs.Opening.{Opens};
 
 use crate::deed::Deed;
 use crate::errors::ErrorFlags;
+use crate::pixels::Pixels;
 use crate::sending::send;
+use attrib_state::Attribs;
 use buffer_store::Buffers;
 use call_records::{Call, Reply, Value};
 use command_stream::write_start;
 use gl_numbers::{GlError, NO_ERROR};
 use object_names::Names;
+use raster_state::Raster;
 use std::alloc::Global;
 use std::marker::Model;
 use std::sync::ledger::Ledger;
@@ -42,12 +45,16 @@ pub enum Open {
     Write,
 }
 
-/// A WebGL context (WebGL 1.0 section 5.14): the names of its objects, its buffers with what is bound, and the error flags.
+/// A WebGL context (WebGL 1.0 section 5.14): the names of its objects, its buffers with what is bound, its vertex attributes, the
+/// pixel store, the error flags, and the raster state.
 #[derive(Drop)]
 pub struct Context {
     pub(crate) names: Names,
     pub(crate) buffers: Buffers,
+    pub(crate) attributes: Attribs,
+    pub(crate) pixels: Pixels,
     pub(crate) errors: ErrorFlags,
+    pub(crate) raster: Raster,
     failed: bool,
 }
 
@@ -60,7 +67,15 @@ impl Model for Context {
 
     ghost coded = { kept_code };
 
-    ghost view = { λ c. record { names = c.names; buffers = c.buffers; errors = c.errors; failed = c.failed } };
+    ghost view = { λ c. record {
+      names = c.names;
+      buffers = c.buffers;
+      attributes = c.attributes;
+      pixels = c.pixels;
+      errors = c.errors;
+      raster = c.raster;
+      failed = c.failed;
+    } };
 
     ghost invariant = { λ c. AreTied c.names c.buffers };
 }
@@ -79,7 +94,10 @@ impl Context {
         Ok(Context {
             names: Names::new(alloc),
             buffers: Buffers::new(alloc),
+            attributes: Attribs::new(),
+            pixels: Pixels::new(),
             errors: ErrorFlags::new(),
+            raster: Raster::new(),
             failed: false,
         })
     }
@@ -113,7 +131,11 @@ impl Context {
         match call {
             Call::Object(call) => self.object(call),
             Call::Buffer(call) => self.buffer(call),
-            Call::Query(call) => Ok(self.query(call)),
+            Call::Attrib(call) => self.attrib(call),
+            Call::Texture(call) => self.texture(call),
+            Call::Query(call) => self.query(call),
+            Call::Raster(call) => self.raster(call),
+            Call::Draw(call) => self.draw(call),
         }
     }
 

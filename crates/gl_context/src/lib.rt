@@ -5,12 +5,19 @@
 //! A call is judged and acts on the stores without a sink; only then its commands are written.
 #![tactic(auto)]
 
+mod attrib_calls;
 mod buffer_calls;
 mod context;
 mod deed;
+mod draw_calls;
 mod errors;
 mod object_calls;
+mod parameters;
+mod pixels;
 mod query_calls;
+mod raster_calls;
 mod sending;
+mod texture_calls;
+mod values;
 
 pub use context::{Context, Open, WriteFault};

@@ -66,7 +66,7 @@ impl Context {
         self.names.driver(handle)
     }
 
-    /// Marks a live buffer, and lets it go.
+    /// Marks a live buffer, and takes it from all that it is bound to.
     fn mark_buffer(&mut self, handle: Handle)
         requires { Finds self.old.names.objects handle kind.Buffer find.Live }
         ensures keeps { (w : PageState) → Keeps self.old w → is_live w kind.Buffer handle ≡ true
@@ -75,6 +75,7 @@ impl Context {
     {
         self.names.delete(handle);
         self.buffers.gone(handle);
+        self.attributes.buffer_gone(handle);
     }
 
     /// deleteBuffer (WebGL 1.0 section 5.14.5)

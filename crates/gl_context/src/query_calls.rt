@@ -1,23 +1,41 @@
-ghost use Rattle.std.specs.Prelude.{◌≡◌, Ok};
+ghost use Rattle.std.specs.Prelude.{◌≡◌, Ok, IfOk};
 ghost use Rattle.gl_model.specs.PageState.{PageState};
-ghost use Rattle.gl_context.specs.QueryRows.{error_row, query_row};
+ghost use Rattle.gl_context.specs.QueryRows.{error_row, is_enabled_row, parameter_row, query_row};
+ghost use Rattle.gl_context.specs.ParameterValues.{parameter_value};
 ghost use Rattle.gl_context.specs.Stands.{Keeps};
 ghost use Rattle.gl_context.specs.Deeds.{ActsBy, CanSend};
 
 use crate::context::Context;
 use crate::deed::Deed;
+use crate::parameters::raster_value;
+use crate::values::truth;
 use call_records::{QueryCall, Value};
+use gl_numbers::{Capability, GlError, Parameter};
 
 impl Context {
     /// The calls that ask for the state of the context.
-    pub(crate) fn query<'a>(&mut self, call: &QueryCall) -> Deed<'a>
-        ensures acts { (w : PageState) → Keeps self.old w → ActsBy (query_row w call.now) w self.new (Ok result) }
-        ensures sendable { CanSend result.outgoing }
+    pub(crate) fn query<'a>(&mut self, call: &QueryCall) -> Result<Deed<'a>, GlError>
+        ensures acts { (w : PageState) → Keeps self.old w → ActsBy (query_row w call.now) w self.new result }
+        ensures sendable { IfOk result (λ deed. CanSend deed.outgoing) }
         ensures failed { self.new.failed ≡ self.old.failed }
     {
         match call {
-            QueryCall::GetError => self.get_error(),
+            QueryCall::IsEnabled(capability) => self.is_enabled(*capability),
+            QueryCall::GetError => Ok(self.get_error()),
+            QueryCall::GetParameter(name) => self.get_parameter(*name),
         }
+    }
+
+    /// isEnabled (WebGL 1.0 section 5.14.3)
+    fn is_enabled<'a>(&self, word: u32) -> Result<Deed<'a>, GlError>
+        ensures acts { (w : PageState) → Keeps self.now w → ActsBy (is_enabled_row w word) w self.now result }
+        ensures sendable { IfOk result (λ deed. CanSend deed.outgoing) }
+    {
+        let Some(capability) = Capability::from_u32(word) else {
+            return Err(GlError::Enum);
+        };
+        let on = self.raster.words().enabled[capability.place()];
+        Ok(Deed::told(truth(on)))
     }
 
     /// getError (WebGL 1.0 section 5.14.3)
@@ -27,5 +45,28 @@ impl Context {
         ensures failed { self.new.failed ≡ self.old.failed }
     {
         Deed::told(Value::Number(self.errors.take()))
+    }
+
+    /// What the state has for a parameter; no buffer is 0.
+    fn parameter_value(&self, parameter: Parameter) -> Value
+        ensures { (w : PageState) → Keeps self.now w → result ≡ parameter_value w parameter }
+    {
+        match parameter {
+            Parameter::Bound(target) => Value::Number(self.buffers.bound(target).unwrap_or(0)),
+            Parameter::Pixel(parameter) => Value::Number(self.pixels.word(parameter)),
+            Parameter::Raster(parameter) => raster_value(parameter, self.raster.words()),
+            Parameter::Limit(limit) => Value::Number(limit.value()),
+        }
+    }
+
+    /// getParameter (WebGL 1.0 section 5.14.3)
+    fn get_parameter<'a>(&self, name: u32) -> Result<Deed<'a>, GlError>
+        ensures acts { (w : PageState) → Keeps self.now w → ActsBy (parameter_row w name) w self.now result }
+        ensures sendable { IfOk result (λ deed. CanSend deed.outgoing) }
+    {
+        match Parameter::from_u32(name) {
+            Some(parameter) => Ok(Deed::told(self.parameter_value(parameter))),
+            None => Err(GlError::Enum),
+        }
     }
 }

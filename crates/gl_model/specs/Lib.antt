@@ -2,6 +2,7 @@ pub mod Errors
 pub mod Buffers
 pub mod BufferState
 pub mod BufferRefusals
+pub mod PixelStore
 pub mod PageState
 pub mod Shot
 pub mod DriverState

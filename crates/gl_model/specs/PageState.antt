@@ -1,27 +1,41 @@
 -- The page's state (WebGL 1.0 section 5; OpenGL ES 2.0 chapters 2 to 4 and 6): the objects that were given handles, what each
--- kind of object holds, what is bound, and the error flags.
+-- kind of object holds, what is bound, the vertex attributes, the pixel store, the error flags, and the raster state.
 use Rattle.std.specs.Prelude.{ℕ, Bool, true, false, not, ◌&&◌, ◌||◌, if◌then◌else◌, List, [], nat_lt}
 use Rattle.std.specs.Option.{option_map_or}
 use Rattle.gl_numbers.specs.ByHandle.{object_at}
 use Rattle.gl_numbers.specs.declared.kinds.Kind as Kinds
 use Rattle.gl_numbers.specs.declared.kinds.Kind.TheVariants as kind
+use Rattle.attrib_state.specs.Attributes.{Attributes, first_attributes}
+use Rattle.raster_state.specs.FirstWords.{first_words}
+use Rattle.raster_state.specs.declared.words.RasterWords.{RasterWords}
 use Rattle.gl_model.specs.Errors.{ErrorSet, no_errors}
 use Rattle.gl_model.specs.BufferState.{BufferState, no_buffers}
+use Rattle.gl_model.specs.PixelStore.{PixelStore, first_pixels}
 
 -- an object that the page made: its kind, and whether it was marked by a delete
 pub record Object : Type 0 where
   pub kind : Kinds.Kind
   pub marked : Bool
 
--- the page's state: the object of handle h stands at place h - 1; the buffers are those by handle
+-- the page's state: the object of handle h stands at place h - 1; the buffers are those by handle, the attributes those by index
 pub record PageState : Type 0 where
   pub objects : List Object
   pub buffers : BufferState
+  pub attributes : Attributes
+  pub pixels : PixelStore
   pub errors : ErrorSet
+  pub raster : RasterWords
 
 -- the page's state at the start
 abbrev pub first_page : PageState
-first_page = record { objects = []; buffers = no_buffers; errors = no_errors }
+first_page = record {
+  objects = [];
+  buffers = no_buffers;
+  attributes = first_attributes;
+  pixels = first_pixels;
+  errors = no_errors;
+  raster = first_words;
+}
 
 -- an object that was just made
 abbrev pub new_object : Kinds.Kind → Object

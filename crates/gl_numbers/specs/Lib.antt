@@ -4,10 +4,15 @@ pub mod Refusals
 pub mod BufferWords
 pub mod BufferBindings
 pub mod BufferRules
+pub mod AttribWords
 pub mod ByHandle
 pub mod TextureWords
 pub mod TextureParameters
 pub mod FramebufferWords
+pub mod Capabilities
+pub mod RasterWords
+pub mod PixelWords
+pub mod Parameters
 pub mod ShortLists
 pub mod Bytes
 pub mod Fields

@@ -1,6 +1,6 @@
 -- What a call or a command is refused for (OpenGL ES 2.0 section 2.5): rules in an order, of which the first that applies gives
 -- the error. A rule never raises OUT_OF_MEMORY, which no state decides.
-use Rattle.std.specs.Prelude.{Bool, Option, Some, None, List, [], ◌∷◌, if◌then◌else◌}
+use Rattle.std.specs.Prelude.{◌≡◌, Bool, Option, Some, None, Result, Ok, Err, List, [], ◌∷◌, if◌then◌else◌}
 use Rattle.gl_numbers.specs.declared.errors.GlError.{GlError}
 use Rattle.gl_numbers.specs.declared.errors.GlError.TheVariants.{Enum, Value, Operation, Framebuffer}
 
@@ -31,3 +31,8 @@ when test code = record { applies = test; raises = code }
 abbrev pub first_refusal : List Rule → Option GlError
 first_refusal [] = None
 first_refusal (rule ∷ rules) = if rule.applies then Some (error_of rule.raises) else first_refusal rules
+
+-- a call returns the error of the first rule that applies, and Ok where none does
+abbrev pub Judged : List Rule → Result (Unit {0}) GlError → Type 0
+Judged rules (Ok _) = first_refusal rules ≡ None
+Judged rules (Err error) = first_refusal rules ≡ Some error

@@ -57,13 +57,13 @@ impl BufferBindings {
     pub fn unbind(&mut self, buffer: u32)
         ensures { self.new ≡ unbind buffer self.old }
     {
-        self.array = without(buffer, self.array);
-        self.element_array = without(buffer, self.element_array);
+        self.array = without_buffer(buffer, self.array);
+        self.element_array = without_buffer(buffer, self.element_array);
     }
 }
 
-/// What is bound to a target, unless it is the buffer.
-fn without(buffer: u32, bound: Option<u32>) -> Option<u32>
+/// What is bound, unless it is this buffer: then none (OpenGL ES 2.0 section 2.9).
+pub fn without_buffer(buffer: u32, bound: Option<u32>) -> Option<u32>
     ensures { result ≡ without buffer bound }
 {
     match bound {

@@ -4,8 +4,10 @@
 //! `Words` are seen as lists.
 #![tactic(auto)]
 
+mod attrib_words;
 mod buffer_bindings;
 mod buffer_words;
+mod capabilities;
 mod errors;
 mod field_bytes;
 mod field_reading;
@@ -13,49 +15,203 @@ mod fields;
 mod framebuffer_words;
 mod kinds;
 mod limits;
+#[cfg(test)]
+mod parameter_tests;
+mod parameters;
+mod pixel_words;
+#[cfg(test)]
+mod raster_tests;
+mod raster_words;
 mod short_lists;
 mod texture_parameters;
 mod texture_words;
 mod words_in_bytes;
 
+pub use attrib_words::AttribParameter;
+pub use attrib_words::AttribType;
+pub use attrib_words::BYTE;
+pub use attrib_words::CURRENT_VERTEX_ATTRIB;
+pub use attrib_words::FLOAT;
+pub use attrib_words::SHORT;
+pub use attrib_words::UNSIGNED_SHORT;
+pub use attrib_words::VERTEX_ATTRIB_ARRAY_BUFFER_BINDING;
+pub use attrib_words::VERTEX_ATTRIB_ARRAY_ENABLED;
+pub use attrib_words::VERTEX_ATTRIB_ARRAY_NORMALIZED;
+pub use attrib_words::VERTEX_ATTRIB_ARRAY_POINTER;
+pub use attrib_words::VERTEX_ATTRIB_ARRAY_SIZE;
+pub use attrib_words::VERTEX_ATTRIB_ARRAY_STRIDE;
+pub use attrib_words::VERTEX_ATTRIB_ARRAY_TYPE;
 pub use buffer_bindings::BufferBindings;
-pub use buffer_words::{
-    ARRAY_BUFFER, BUFFER_SIZE, BUFFER_USAGE, BufferTarget, DYNAMIC_DRAW, ELEMENT_ARRAY_BUFFER,
-    STATIC_DRAW, STREAM_DRAW, Usage, is_buffer_parameter,
-};
-pub use errors::{
-    GlError, INVALID_ENUM, INVALID_FRAMEBUFFER_OPERATION, INVALID_OPERATION, INVALID_VALUE, Memory,
-    NO_ERROR, OUT_OF_MEMORY,
-};
-pub use field_bytes::{FIELD_BYTES_MAX, FieldBytes};
+pub use buffer_bindings::without_buffer;
+pub use buffer_words::ARRAY_BUFFER;
+pub use buffer_words::BUFFER_SIZE;
+pub use buffer_words::BUFFER_USAGE;
+pub use buffer_words::BufferTarget;
+pub use buffer_words::DYNAMIC_DRAW;
+pub use buffer_words::ELEMENT_ARRAY_BUFFER;
+pub use buffer_words::STATIC_DRAW;
+pub use buffer_words::STREAM_DRAW;
+pub use buffer_words::Usage;
+pub use buffer_words::is_buffer_parameter;
+pub use capabilities::BLEND;
+pub use capabilities::CULL_FACE;
+pub use capabilities::Capability;
+pub use capabilities::DEPTH_TEST;
+pub use capabilities::DITHER;
+pub use capabilities::POLYGON_OFFSET_FILL;
+pub use capabilities::SAMPLE_ALPHA_TO_COVERAGE;
+pub use capabilities::SAMPLE_COVERAGE;
+pub use capabilities::SCISSOR_TEST;
+pub use capabilities::STENCIL_TEST;
+pub use errors::GlError;
+pub use errors::INVALID_ENUM;
+pub use errors::INVALID_FRAMEBUFFER_OPERATION;
+pub use errors::INVALID_OPERATION;
+pub use errors::INVALID_VALUE;
+pub use errors::Memory;
+pub use errors::NO_ERROR;
+pub use errors::OUT_OF_MEMORY;
+pub use field_bytes::FIELD_BYTES_MAX;
+pub use field_bytes::FieldBytes;
 pub use field_reading::Fields;
-pub use fields::{Field, Letter, Row, Tail};
-pub use framebuffer_words::{
-    COLOR_ATTACHMENT0, DEPTH_ATTACHMENT, DEPTH_COMPONENT16, DEPTH_STENCIL,
-    DEPTH_STENCIL_ATTACHMENT, FRAMEBUFFER_COMPLETE, FRAMEBUFFER_INCOMPLETE_ATTACHMENT,
-    FRAMEBUFFER_INCOMPLETE_DIMENSIONS, FRAMEBUFFER_INCOMPLETE_MISSING_ATTACHMENT,
-    FRAMEBUFFER_UNSUPPORTED, Point, RGB5_A1, RGB565, RGBA4, STENCIL_ATTACHMENT, STENCIL_INDEX8,
-    is_renderbuffer_format,
-};
-pub use kinds::{Handle, Kind, Stage};
-pub use limits::{BUFFER_BYTES_MAX, HANDLES_MAX};
-pub use short_lists::{NAME_BYTES, Name, WORDS, Words};
-pub use texture_parameters::{
-    CLAMP_TO_EDGE, LINEAR, LINEAR_MIPMAP_LINEAR, LINEAR_MIPMAP_NEAREST, MIRRORED_REPEAT, NEAREST,
-    NEAREST_MIPMAP_LINEAR, NEAREST_MIPMAP_NEAREST, REPEAT, TEXTURE_MAG_FILTER, TEXTURE_MIN_FILTER,
-    TEXTURE_WRAP_S, TEXTURE_WRAP_T, is_magnification, is_minification, is_mipmap_filter,
-    is_texture_parameter, is_wrap,
-};
-pub use texture_words::{
-    ALPHA, Face, Format, LUMINANCE, LUMINANCE_ALPHA, RGB, RGBA, TEXTURE_2D, TEXTURE_CUBE_MAP,
-    TEXTURE_CUBE_MAP_NEGATIVE_X, TEXTURE_CUBE_MAP_NEGATIVE_Y, TEXTURE_CUBE_MAP_NEGATIVE_Z,
-    TEXTURE_CUBE_MAP_POSITIVE_X, TEXTURE_CUBE_MAP_POSITIVE_Y, TEXTURE_CUBE_MAP_POSITIVE_Z,
-    TexTarget, TexelType, UNSIGNED_BYTE, UNSIGNED_SHORT_4_4_4_4, UNSIGNED_SHORT_5_5_5_1,
-    UNSIGNED_SHORT_5_6_5,
-};
-pub use words_in_bytes::{
-    four_words, i32_at, i64_at, int_bytes, long_bytes, three_words, two_words, u32_at, word_bytes,
-};
+pub use fields::Field;
+pub use fields::Letter;
+pub use fields::Row;
+pub use fields::Tail;
+pub use framebuffer_words::COLOR_ATTACHMENT0;
+pub use framebuffer_words::DEPTH_ATTACHMENT;
+pub use framebuffer_words::DEPTH_COMPONENT16;
+pub use framebuffer_words::DEPTH_STENCIL;
+pub use framebuffer_words::DEPTH_STENCIL_ATTACHMENT;
+pub use framebuffer_words::FRAMEBUFFER_COMPLETE;
+pub use framebuffer_words::FRAMEBUFFER_INCOMPLETE_ATTACHMENT;
+pub use framebuffer_words::FRAMEBUFFER_INCOMPLETE_DIMENSIONS;
+pub use framebuffer_words::FRAMEBUFFER_INCOMPLETE_MISSING_ATTACHMENT;
+pub use framebuffer_words::FRAMEBUFFER_UNSUPPORTED;
+pub use framebuffer_words::Point;
+pub use framebuffer_words::RGB5_A1;
+pub use framebuffer_words::RGB565;
+pub use framebuffer_words::RGBA4;
+pub use framebuffer_words::STENCIL_ATTACHMENT;
+pub use framebuffer_words::STENCIL_INDEX8;
+pub use framebuffer_words::is_renderbuffer_format;
+pub use kinds::Handle;
+pub use kinds::Kind;
+pub use kinds::Stage;
+pub use limits::BUFFER_BYTES_MAX;
+pub use limits::COMBINED_TEXTURE_UNITS_MAX;
+pub use limits::FRAGMENT_UNIFORM_VECTORS_MAX;
+pub use limits::HANDLES_MAX;
+pub use limits::IMAGE_SIDE_MAX;
+pub use limits::TEXTURE_UNITS_MAX;
+pub use limits::VARYING_VECTORS_MAX;
+pub use limits::VERTEX_ATTRIBS_MAX;
+pub use limits::VERTEX_TEXTURE_UNITS_MAX;
+pub use limits::VERTEX_UNIFORM_VECTORS_MAX;
+pub use parameters::Limit;
+pub use parameters::Parameter;
+pub use parameters::RasterParameter;
+pub use pixel_words::BROWSER_DEFAULT_WEBGL;
+pub use pixel_words::PixelParameter;
+pub use raster_words::ALWAYS;
+pub use raster_words::BACK;
+pub use raster_words::CCW;
+pub use raster_words::CONSTANT_ALPHA;
+pub use raster_words::CONSTANT_COLOR;
+pub use raster_words::CW;
+pub use raster_words::DECR;
+pub use raster_words::DECR_WRAP;
+pub use raster_words::DST_ALPHA;
+pub use raster_words::DST_COLOR;
+pub use raster_words::EQUAL;
+pub use raster_words::FRONT;
+pub use raster_words::FRONT_AND_BACK;
+pub use raster_words::FUNC_ADD;
+pub use raster_words::FUNC_REVERSE_SUBTRACT;
+pub use raster_words::FUNC_SUBTRACT;
+pub use raster_words::GEQUAL;
+pub use raster_words::GREATER;
+pub use raster_words::INCR;
+pub use raster_words::INCR_WRAP;
+pub use raster_words::INVERT;
+pub use raster_words::KEEP;
+pub use raster_words::LEQUAL;
+pub use raster_words::LESS;
+pub use raster_words::NEVER;
+pub use raster_words::NOTEQUAL;
+pub use raster_words::ONE;
+pub use raster_words::ONE_MINUS_CONSTANT_ALPHA;
+pub use raster_words::ONE_MINUS_CONSTANT_COLOR;
+pub use raster_words::ONE_MINUS_DST_ALPHA;
+pub use raster_words::ONE_MINUS_DST_COLOR;
+pub use raster_words::ONE_MINUS_SRC_ALPHA;
+pub use raster_words::ONE_MINUS_SRC_COLOR;
+pub use raster_words::REPLACE;
+pub use raster_words::SRC_ALPHA;
+pub use raster_words::SRC_ALPHA_SATURATE;
+pub use raster_words::SRC_COLOR;
+pub use raster_words::Side;
+pub use raster_words::ZERO;
+pub use raster_words::is_blend_equation;
+pub use raster_words::is_comparison;
+pub use raster_words::is_constant_alpha;
+pub use raster_words::is_constant_color;
+pub use raster_words::is_destination_factor;
+pub use raster_words::is_source_factor;
+pub use raster_words::is_stencil_operation;
+pub use raster_words::is_winding;
+pub use short_lists::NAME_BYTES;
+pub use short_lists::Name;
+pub use short_lists::WORDS;
+pub use short_lists::Words;
+pub use texture_parameters::CLAMP_TO_EDGE;
+pub use texture_parameters::LINEAR;
+pub use texture_parameters::LINEAR_MIPMAP_LINEAR;
+pub use texture_parameters::LINEAR_MIPMAP_NEAREST;
+pub use texture_parameters::MIRRORED_REPEAT;
+pub use texture_parameters::NEAREST;
+pub use texture_parameters::NEAREST_MIPMAP_LINEAR;
+pub use texture_parameters::NEAREST_MIPMAP_NEAREST;
+pub use texture_parameters::REPEAT;
+pub use texture_parameters::TEXTURE_MAG_FILTER;
+pub use texture_parameters::TEXTURE_MIN_FILTER;
+pub use texture_parameters::TEXTURE_WRAP_S;
+pub use texture_parameters::TEXTURE_WRAP_T;
+pub use texture_parameters::is_magnification;
+pub use texture_parameters::is_minification;
+pub use texture_parameters::is_mipmap_filter;
+pub use texture_parameters::is_texture_parameter;
+pub use texture_parameters::is_wrap;
+pub use texture_words::ALPHA;
+pub use texture_words::Face;
+pub use texture_words::Format;
+pub use texture_words::LUMINANCE;
+pub use texture_words::LUMINANCE_ALPHA;
+pub use texture_words::RGB;
+pub use texture_words::RGBA;
+pub use texture_words::TEXTURE_2D;
+pub use texture_words::TEXTURE_CUBE_MAP;
+pub use texture_words::TEXTURE_CUBE_MAP_NEGATIVE_X;
+pub use texture_words::TEXTURE_CUBE_MAP_NEGATIVE_Y;
+pub use texture_words::TEXTURE_CUBE_MAP_NEGATIVE_Z;
+pub use texture_words::TEXTURE_CUBE_MAP_POSITIVE_X;
+pub use texture_words::TEXTURE_CUBE_MAP_POSITIVE_Y;
+pub use texture_words::TEXTURE_CUBE_MAP_POSITIVE_Z;
+pub use texture_words::TexTarget;
+pub use texture_words::TexelType;
+pub use texture_words::UNSIGNED_BYTE;
+pub use texture_words::UNSIGNED_SHORT_4_4_4_4;
+pub use texture_words::UNSIGNED_SHORT_5_5_5_1;
+pub use texture_words::UNSIGNED_SHORT_5_6_5;
+pub use words_in_bytes::four_words;
+pub use words_in_bytes::i32_at;
+pub use words_in_bytes::i64_at;
+pub use words_in_bytes::int_bytes;
+pub use words_in_bytes::long_bytes;
+pub use words_in_bytes::three_words;
+pub use words_in_bytes::two_words;
+pub use words_in_bytes::u32_at;
+pub use words_in_bytes::word_bytes;
 
 #[cfg(test)]
 mod tests;

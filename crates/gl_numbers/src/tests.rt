@@ -1,6 +1,6 @@
 use crate::{
-    BufferTarget, GlError, Name, Usage, Words, four_words, i64_at, three_words, two_words, u32_at,
-    word_bytes,
+    AttribParameter, AttribType, BufferTarget, GlError, Name, Usage, Words, four_words, i64_at,
+    three_words, two_words, u32_at, word_bytes,
 };
 use std::test::Fail;
 
@@ -49,6 +49,53 @@ fn usages_are_three_words(rt: HostRuntime) {
         if let Some(usage) = usage {
             assert_eq!(rt; usage.word(), word);
         }
+    }
+}
+
+#[test]
+fn attribute_types_are_five_words(rt: HostRuntime) {
+    for (word, expected) in [
+        (0x1400, Some((AttribType::Byte, 1))),
+        (0x1401, Some((AttribType::UnsignedByte, 1))),
+        (0x1402, Some((AttribType::Short, 2))),
+        (0x1403, Some((AttribType::UnsignedShort, 2))),
+        (0x1406, Some((AttribType::Float, 4))),
+        (0x13FF, None),
+        (0x1404, None),
+        (0x1405, None),
+        (0x1407, None),
+        (0, None),
+        (0xFFFF_FFFF, None),
+    ] {
+        let kind = AttribType::from_u32(word);
+        assert_eq!(rt; kind.map(|k| (k, k.size())), expected, "at {word}");
+        if let Some(kind) = kind {
+            assert_eq!(rt; kind.word(), word);
+        }
+    }
+}
+
+#[test]
+fn attribute_parameters_are_seven_words(rt: HostRuntime) {
+    for (word, parameter) in [
+        (0x8622, Some(AttribParameter::Enabled)),
+        (0x8623, Some(AttribParameter::Size)),
+        (0x8624, Some(AttribParameter::Stride)),
+        (0x8625, Some(AttribParameter::ElementType)),
+        (0x8626, Some(AttribParameter::Current)),
+        (0x886A, Some(AttribParameter::Normalized)),
+        (0x889F, Some(AttribParameter::BufferBinding)),
+        (0x8621, None),
+        (0x8627, None),
+        (0x8645, None),
+        (0x8869, None),
+        (0x886B, None),
+        (0x889E, None),
+        (0x88A0, None),
+        (0, None),
+        (0xFFFF_FFFF, None),
+    ] {
+        assert_eq!(rt; AttribParameter::from_u32(word), parameter, "at {word}");
     }
 }
 

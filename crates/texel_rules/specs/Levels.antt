@@ -8,10 +8,6 @@ use Rattle.gl_numbers.specs.TextureWords.{format_word, texel_type_word}
 use Rattle.texel_rules.specs.declared.layouts.Layout.{Layout}
 use Rattle.texel_rules.specs.declared.layouts.LevelInfo.{LevelInfo}
 
--- the most texels of a side of a texture: this project's own limit
-abbrev pub texture_side_max : ℕ
-texture_side_max = 2048
-
 -- how many levels a face has at most, from 2048x2048 to 1x1
 abbrev pub level_count : ℕ
 level_count = 12

@@ -2,10 +2,10 @@
 use Rattle.std.specs.Prelude.{ℕ, ◌+◌, ◌-◌, ◌*◌, ◌/◌, ◌%◌, ◌≡◌, ◌<◌, ◌≤◌, ◌==◌, ◌||◌, Bool, if◌then◌else◌, List, length, take, drop}
 use Rattle.std.specs.List.{flat_map, range_with_len}
 use Rattle.std.specs.Simd.{first_chunks}
+use Rattle.gl_numbers.specs.Limits.{image_side_max}
 use Rattle.texel_rules.specs.declared.layouts.Layout.{Layout}
 use Rattle.texel_rules.specs.declared.uploads.Upload.{Upload}
 use Rattle.texel_rules.specs.Layouts.{IsAllowed, texel_bytes}
-use Rattle.texel_rules.specs.Levels.{texture_side_max}
 use Rattle.texel_rules.specs.Texels.{converted}
 
 -- these bytes are whole texels
@@ -27,8 +27,8 @@ source_row height flip y = if flip then height - 1 - y else y
 -- an image within the limits: a layout that is allowed, the sides of a texture, and an alignment of at most 8 bytes
 pub record IsUpload (upload : Upload) : Type 0 where
   pub allowed : IsAllowed upload.layout
-  pub wide : upload.width ≤ texture_side_max
-  pub high : upload.height ≤ texture_side_max
+  pub wide : upload.width ≤ image_side_max
+  pub high : upload.height ≤ image_side_max
   pub aligned : 0 < upload.alignment
   pub near : upload.alignment ≤ 8
 

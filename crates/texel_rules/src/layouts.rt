@@ -3,10 +3,6 @@ ghost use Rattle.texel_rules.specs.Layouts.{is_allowed, texel_bytes};
 
 use gl_numbers::{Format, TexelType};
 
-/// The most texels of a side of a texture or a renderbuffer: this project's own limit (OpenGL ES 2.0 section 3.7.1 leaves
-/// it to the driver).
-pub const TEXTURE_SIDE_MAX: u32 = 2048;
-
 /// How many levels a face of a texture has at most, from 2048x2048 to 1x1 (OpenGL ES 2.0 section 3.7.7).
 pub const LEVEL_COUNT: u32 = 12;
 

@@ -10,7 +10,7 @@ mod rows;
 mod texels;
 mod uploads;
 
-pub use layouts::{LEVEL_COUNT, Layout, LevelInfo, TEXTURE_SIDE_MAX, Texel};
+pub use layouts::{LEVEL_COUNT, Layout, LevelInfo, Texel};
 pub use rows::{plain_row, row_place};
 pub use texels::{pack_texel, premultiply, read_texel};
 pub use uploads::{Upload, upload_row};

@@ -3,6 +3,7 @@
 ghost use Rattle.std.specs.Prelude.{◌≡◌, ◌<◌, ◌^◌};
 ghost use Rattle.gl_numbers.specs.Bytes.{IsLong};
 
+use crate::attrib_encoded::write_attrib_record;
 use crate::in_short::{CREATE, GET_ERROR};
 use call_records::{
     BufferCall, Call, Fill, New, ObjectCall, QueryCall, Reply, write_call, write_reply,
@@ -16,7 +17,7 @@ use wire_io::{Failed, MemSink, write_all};
 const ROOM: usize = 1024;
 
 /// A word, which is below 2^32.
-fn word(n: u32) -> u32
+pub fn word(n: u32) -> u32
     ensures same { result ≡ n }
     ensures word { result < 2 ^ 32 }
 {
@@ -24,14 +25,14 @@ fn word(n: u32) -> u32
 }
 
 /// A number of 64 bits with a sign.
-fn long(n: i64) -> i64
+pub fn long(n: i64) -> i64
     ensures same { result ≡ n }
     ensures long { IsLong result }
 {
     n
 }
 
-/// Writes a call's record, where the bytes that it ends in have their room.
+/// Writes a call's record, where the bytes that it ends in have their room. The tests of the other state write their own.
 #[tactic(auto, using(call_records::proofs::Lengths::lengths))]
 fn write_record(call: &Call<'_>, out: &mut MemSink) -> Result<(), Failed> {
     match *call {
@@ -45,7 +46,12 @@ fn write_record(call: &Call<'_>, out: &mut MemSink) -> Result<(), Failed> {
             write_call(&Call::Object(ObjectCall::IsKind { kind, handle }), out)
         }
         Call::Buffer(call) => write_buffer_record(call, out),
+        Call::Attrib(call) => write_attrib_record(call, out),
         Call::Query(QueryCall::GetError) => write_call(&GET_ERROR, out),
+        Call::Texture(_)
+        | Call::Query(QueryCall::IsEnabled(_) | QueryCall::GetParameter(_))
+        | Call::Raster(_)
+        | Call::Draw(_) => Err(Failed),
     }
 }
 

@@ -1,7 +1,10 @@
 //! Calls, replies and commands in short, for the tests.
 
-use call_records::{BufferCall, Call, Fill, New, ObjectCall, ObjectKind, QueryCall, Reply, Value};
+use call_records::{
+    AttribCall, BufferCall, Call, Fill, New, ObjectCall, ObjectKind, QueryCall, Reply, Value,
+};
 use command_stream::{BufferCommand, Command, ObjectCommand};
+use gl_numbers::Words;
 
 pub const ARRAY: u32 = 0x8892;
 
@@ -74,6 +77,45 @@ pub fn patch(target: u32, offset: i64, bytes: &[u8]) -> Call<'_> {
 
 pub fn parameter(target: u32, name: u32) -> Call<'static> {
     Call::Buffer(BufferCall::GetBufferParameter { target, name })
+}
+
+pub fn array(index: u32, on: bool) -> Call<'static> {
+    Call::Attrib(AttribCall::AttribArray { index, on })
+}
+
+/// A vertexAttribPointer of elements that aren't normalized: its size, the word of their type, its stride and its offset.
+pub fn pointer(index: u32, numbers: (i32, u32, i32, i64)) -> Call<'static> {
+    let (size, kind, stride, offset) = numbers;
+    Call::Attrib(AttribCall::VertexAttribPointer {
+        index,
+        size,
+        kind,
+        normalized: 0,
+        stride,
+        offset,
+    })
+}
+
+pub fn constant(index: u32, words: [u32; 4]) -> Call<'static> {
+    let [x, y, z, w] = words;
+    Call::Attrib(AttribCall::VertexAttrib { index, x, y, z, w })
+}
+
+pub fn attribute(index: u32, name: u32) -> Call<'static> {
+    Call::Attrib(AttribCall::GetVertexAttrib { index, name })
+}
+
+pub fn attribute_offset(index: u32, name: u32) -> Call<'static> {
+    Call::Attrib(AttribCall::GetVertexAttribOffset { index, name })
+}
+
+/// A reply of at most 16 words.
+pub fn list(words: &[u32]) -> Reply {
+    let value = match Words::new(words) {
+        Some(words) => Value::List(words),
+        None => Value::Nothing,
+    };
+    Reply { raised: 0, value }
 }
 
 pub fn number(n: u32) -> Reply {

@@ -6,6 +6,10 @@
 #![tactic(auto)]
 
 #[cfg(test)]
+mod attrib_encoded;
+#[cfg(test)]
+mod attrib_tests;
+#[cfg(test)]
 mod buffer_tests;
 #[cfg(test)]
 mod encoded;
@@ -18,7 +22,11 @@ mod in_short;
 #[cfg(test)]
 mod over_memory;
 #[cfg(test)]
+mod raster_tests;
+#[cfg(test)]
 mod replay_tests;
+#[cfg(test)]
+mod state_tests;
 #[cfg(test)]
 mod tests;
 mod tool;

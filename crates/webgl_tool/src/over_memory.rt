@@ -91,3 +91,26 @@ pub fn is_served(
     let sent = stream(alloc, commands)?;
     Ok(ran.gave(Status::Ok, out.as_slice(), sent.as_slice()))
 }
+
+/// A call, as its operation and the words of its body, and its reply.
+pub type Answered<'a> = (u32, &'a [u32], Reply);
+
+/// Whether these calls are answered so, one after another, and send nothing.
+pub fn are_answered(alloc: Global, calls: &[Answered<'_>]) -> Result<bool, Fail> {
+    let mut bytes = [0x57, 0x47, 0x4C, 0x52, 1, 0, 0, 0].to_vec(alloc)?;
+    let mut answers = Vec::new(alloc);
+    for (operation, words, reply) in calls {
+        let size = u32::try_from(words.len()).unwrap_or(0).wrapping_mul(4);
+        bytes.extend_from_slice(&operation.to_le_bytes())?;
+        bytes.extend_from_slice(&size.to_le_bytes())?;
+        for word in words.iter() {
+            bytes.extend_from_slice(&word.to_le_bytes())?;
+        }
+        answers.push(*reply)?;
+    }
+    bytes.extend_from_slice(&[0; 8])?;
+    let ran = run(alloc, bytes.as_slice(), 2048, [&[], &[], &[]])?;
+    let out = replies(alloc, answers.as_slice())?;
+    let sent = stream(alloc, &[])?;
+    Ok(ran.gave(Status::Ok, out.as_slice(), sent.as_slice()))
+}

@@ -9,4 +9,4 @@ invariant_of-self c = rw (c.delete.ensures.after, c.gone.ensures) (tied-delete c
 
 pub returns-clause-keeps : goal.returns-clause-keeps
 returns-clause-keeps c w k live =
-    rw (c.delete.ensures.after, c.gone.ensures) (acts-delete _ w None c.args.handle (rw (← c.self.view_is) at k) live)
+    rw (c.delete.ensures.after, c.gone.ensures, c.buffer_gone.ensures) (acts-delete _ w None c.args.handle (rw (← c.self.view_is) at k) live)

@@ -1,0 +1,4 @@
+pub mod FirstWords
+pub mod Rules
+pub mod Effects
+pub mod Codes
