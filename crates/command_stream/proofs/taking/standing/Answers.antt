@@ -1,5 +1,5 @@
 -- The header was judged, and all the bytes are in the piece.
-use Rattle.std.proofs.Common.{◌+◌, ℕ, List, [], take, refl, arith}
+use Rattle.std.proofs.Common.{◌+◌, ℕ, [], take, refl, arith}
 use Rattle.std.proofs.lemmas.List.{length-take-le}
 use Rattle.command_stream.proofs.Pieces.{whole}
 use Rattle.command_stream.proofs.taking.standing.Goals as goal
