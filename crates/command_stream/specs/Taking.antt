@@ -37,6 +37,12 @@ pub record IsWhole (operation : Operation) (bytes : List ℕ) : Type 0 where
   pub are : bytes ≡ le32 (number_of operation) ++ (le32 (length (drop HEADER_BYTES bytes)) ++ drop HEADER_BYTES bytes)
   pub allowed : allows operation (length (drop HEADER_BYTES bytes)) ≡ true
 
+-- a whole command stands at the head of a piece, in so many bytes
+pub record Stands (piece : List ℕ) (operation : Operation) (size : ℕ) : Type 0 where
+  pub within : size ≤ length piece
+  pub some : 0 < size
+  pub whole : IsWhole operation (take size piece)
+
 -- all of a piece is taken, and no command ends in it
 pub record TakesPart (started : Bool) (begun piece : List ℕ) (now_started : Bool) (now_begun : List ℕ) : Type 0 where
   pub bytes : start_taken started ++ (begun ++ piece) ≡ start_taken now_started ++ now_begun

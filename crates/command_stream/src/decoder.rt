@@ -9,7 +9,7 @@ use crate::bad::Bad;
 use crate::command::{Command, command_of};
 use crate::operation::{HEADER_BYTES, START_BYTES};
 use crate::room::reach;
-use crate::taking::{COMMAND_MAX, Taken, take_in};
+use crate::taking::{COMMAND_MAX, Taken, standing, take_in};
 use gl_numbers::Memory;
 use std::alloc::Global;
 use std::marker::Model;
@@ -73,8 +73,27 @@ impl Decoder {
 
     /// Takes the piece's bytes up to the end of the next whole command, or all of them where no command ends in
     /// them, and returns how many, and the command. Bad comes exactly where a whole header is refused; then
-    /// nothing is taken.
-    pub fn feed<'d>(&'d mut self, piece: &[u8]) -> Result<(usize, Option<Command<'d>>), Bad>
+    /// nothing is taken. A command that stands whole in the piece is lent from there.
+    #[inline]
+    pub fn feed<'d>(&'d mut self, piece: &'d [u8]) -> Result<(usize, Option<Command<'d>>), Bad>
+        requires { self.old.taken < 2 ^ 63 }
+        ensures within { IfOk result (λ found. found.0 ≤ length piece.now) }
+        ensures progress { IfOk result (λ found. 0 < length piece.now → 0 < found.0) }
+        ensures* after { sem 𝓛 (follows_so the_row the_row self.entry.ghost_name none (λ _ _. ⊤)
+            (λ new. Feeds self.old piece.now new result)) }
+    {
+        if self.idle() {
+            if let Some((operation, size)) = standing(piece) {
+                self.taken += size as u64;
+                let whole = &piece[..size];
+                return Ok((size, Some(command_of(operation, &whole[HEADER_BYTES..]))));
+            }
+        }
+        self.feed_held(piece)
+    }
+
+    /// The same, where the command is lent from the decoder's own bytes, which the piece's follow.
+    fn feed_held<'d>(&'d mut self, piece: &[u8]) -> Result<(usize, Option<Command<'d>>), Bad>
         requires { self.old.taken < 2 ^ 63 }
         ensures within { IfOk result (λ found. found.0 ≤ length piece.now) }
         ensures progress { IfOk result (λ found. 0 < length piece.now → 0 < found.0) }

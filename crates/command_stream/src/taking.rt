@@ -1,6 +1,6 @@
-ghost use Rattle.std.specs.Prelude.{◌≡◌, ◌+◌, ◌<◌, ◌≤◌, ◌++◌, min, length, take, true};
+ghost use Rattle.std.specs.Prelude.{◌≡◌, ◌+◌, ◌<◌, ◌≤◌, ◌++◌, min, length, take, true, IfSome};
 ghost use Rattle.command_stream.specs.DecoderState.{IsPart};
-ghost use Rattle.command_stream.specs.Taking.{AreFirst, Judges, StartsIn, TakesIn};
+ghost use Rattle.command_stream.specs.Taking.{AreFirst, Judges, Stands, StartsIn, TakesIn};
 
 use crate::operation::{HEADER_BYTES, Operation, START_BYTES};
 use crate::write::start;
@@ -85,6 +85,25 @@ fn judge(header: &[u8; 8]) -> Option<(Operation, u32)>
         Some(operation) if operation.allows(len) => Some((operation, len)),
         _ => None,
     }
+}
+
+/// The operation of the command that stands whole at the head of a piece, and its bytes in all; None where its end isn't in
+/// the piece, or its header is refused.
+#[inline]
+pub fn standing(piece: &[u8]) -> Option<(Operation, usize)>
+    ensures { IfSome result (λ found. Stands piece.now found.0 found.1) }
+{
+    let Some(first) = first_eight(&[], piece) else {
+        return None;
+    };
+    let Some((operation, len)) = judge(&first) else {
+        return None;
+    };
+    let size = HEADER_BYTES + len as usize;
+    if piece.len() < size {
+        return None;
+    }
+    Some((operation, size))
 }
 
 /// Looks for the end of the stream's header.

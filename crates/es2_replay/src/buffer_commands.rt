@@ -1,14 +1,14 @@
-ghost use Rattle.std.specs.Prelude.{◌≡◌, ◌+◌, ◌≤◌, None, Some, IfSome, OnOk, OnErr, length};
+ghost use Rattle.std.specs.Prelude.{◌≡◌, None, OnOk, OnErr};
 ghost use Rattle.std.specs.Option.{option_and_then, option_copied};
 ghost use Rattle.command_stream.specs.declared.command.Command.TheVariants.{Buffer};
 ghost use Rattle.command_stream.specs.declared.buffer_commands.BufferCommand.TheVariants.{BindBuffer, BufferSize, BufferBytes};
 ghost use Rattle.gl_numbers.specs.BufferBindings.{bound_to, non_zero};
-ghost use Rattle.gl_model.specs.Buffers.{take_target, take_data, patch};
 ghost use Rattle.gl_model.specs.DriverStep.{refusal, effect};
-ghost use Rattle.es2_replay.specs.Kept.{named, state_of, IsChanged};
+ghost use Rattle.es2_replay.specs.Named.{named};
+ghost use Rattle.es2_replay.specs.Kept.{state_of};
 ghost use Rattle.es2_replay.specs.Applied.{Acts};
 
-use crate::buffer_object::BufferObject;
+use crate::buffer_object::{BufferObject, Change};
 use crate::machine::Machine;
 use command_stream::BufferCommand;
 use gl_numbers::{BUFFER_BYTES_MAX, BufferTarget, GlError, Memory, Usage};
@@ -72,7 +72,7 @@ impl Machine {
     fn bound_buffer(&self, target: u32) -> Option<&BufferObject>
         ensures { option_copied result ≡ option_and_then (named self.now.made) (bound_to self.now.bound target) }
     {
-        self.buffers.get(&self.bound_to(target)?)
+        self.buffers.get(self.bound_to(target)?)
     }
 
     /// Why BindBuffer is refused, if it is.
@@ -82,7 +82,7 @@ impl Machine {
         let Some(wanted) = BufferTarget::from_u32(target) else {
             return Some(GlError::Enum);
         };
-        let Some(buffer) = self.buffers.get(&name) else {
+        let Some(buffer) = self.buffers.get(name) else {
             // No buffer of this name is made, and 0 unbinds.
             return if name != 0 {
                 Some(GlError::Operation)
@@ -128,34 +128,6 @@ impl Machine {
         None
     }
 
-    /// The buffer of a name, where it is made, takes a target.
-    fn take_target(&mut self, name: u32, target: BufferTarget)
-        ensures { IsChanged (take_target (Some target)) name self.old self.new }
-    {
-        if let Some(buffer) = self.buffers.get_mut(&name) {
-            buffer.take_target(target);
-        }
-    }
-
-    /// The buffer of a name, where it is made, takes these bytes and the usage of a word.
-    fn take_data(&mut self, name: u32, usage: u32, bytes: Vec<u8>)
-        ensures { IsChanged (take_data usage bytes.items) name self.old self.new }
-    {
-        if let Some(buffer) = self.buffers.get_mut(&name) {
-            buffer.take_data(usage, bytes);
-        }
-    }
-
-    /// The buffer of a name, where it is made, takes bytes over its own, from an offset on.
-    fn patch(&mut self, name: u32, offset: usize, bytes: &[u8])
-        requires { IfSome (named self.old.made name) (λ b. offset + length bytes.now ≤ length b.bytes) }
-        ensures { IsChanged (patch offset bytes.now) name self.old self.new }
-    {
-        if let Some(buffer) = self.buffers.get_mut(&name) {
-            buffer.patch(offset, bytes);
-        }
-    }
-
     /// BindBuffer of a name that is made, or of 0.
     fn bind_buffer(&mut self, target: u32, name: u32)
         ensures state { state_of self.new ≡ effect (state_of self.old) (Buffer (BindBuffer target name)) }
@@ -165,7 +137,7 @@ impl Machine {
             return;
         };
         self.bound.set(wanted, non_zero(name));
-        self.take_target(name, wanted);
+        self.buffers.change(name, Change::Target(wanted));
     }
 
     /// BufferSize of a buffer that is bound; its zeros are taken before anything changes.
@@ -180,7 +152,11 @@ impl Machine {
         let Some(name) = self.bound_to(target) else {
             return Ok(());
         };
-        self.take_data(name, usage, zeros);
+        let data = Change::Data {
+            usage,
+            bytes: zeros,
+        };
+        self.buffers.change(name, data);
         Ok(())
     }
 
@@ -193,7 +169,11 @@ impl Machine {
         let Some(name) = self.bound_to(target) else {
             return;
         };
-        self.patch(name, offset as usize, bytes);
+        let patch = Change::Patch {
+            offset: offset as usize,
+            bytes,
+        };
+        self.buffers.change(name, patch);
     }
 }
 

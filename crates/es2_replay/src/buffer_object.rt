@@ -1,9 +1,21 @@
 ghost use Rattle.std.specs.Prelude.{◌≡◌, ◌+◌, ◌≤◌, Some, length};
 ghost use Rattle.gl_model.specs.Buffers.{new_buffer, take_target, take_data, patch};
+ghost use Rattle.es2_replay.specs.Named.{changed_by, Fits};
 
 use gl_numbers::{BufferTarget, Usage};
 use std::alloc::Global;
 use std::marker::Model;
+
+/// What a command changes of one buffer.
+#[derive(Drop)]
+pub enum Change<'a> {
+    /// It takes a target, where it has none.
+    Target(BufferTarget),
+    /// It takes new bytes in place of its own, and the usage of a word.
+    Data { usage: u32, bytes: Vec<u8> },
+    /// Bytes are written over its own, from an offset on.
+    Patch { offset: usize, bytes: &'a [u8] },
+}
 
 /// A buffer object with all its bytes (OpenGL ES 2.0 section 2.9).
 #[derive(Drop)]
@@ -47,15 +59,30 @@ impl BufferObject {
         self.bytes.as_slice()
     }
 
+    /// Takes a change.
+    #[inline(always)]
+    pub fn change(&mut self, change: Change<'_>)
+        requires { Fits change self.old }
+        ensures { self.new ≡ changed_by change.entry self.old }
+    {
+        match change {
+            Change::Target(target) => self.take_target(target),
+            Change::Data { usage, bytes } => self.take_data(usage, bytes),
+            Change::Patch { offset, bytes } => self.patch(offset, bytes),
+        }
+    }
+
     /// Takes a target, where it has none.
-    pub fn take_target(&mut self, target: BufferTarget)
+    #[inline]
+    fn take_target(&mut self, target: BufferTarget)
         ensures { self.new ≡ take_target (Some target) self.old }
     {
         self.first_target = self.first_target.or(Some(target));
     }
 
     /// Takes new bytes in place of its own, and the usage of a word.
-    pub fn take_data(&mut self, usage: u32, bytes: Vec<u8>)
+    #[inline]
+    fn take_data(&mut self, usage: u32, bytes: Vec<u8>)
         ensures { self.new ≡ take_data usage bytes.items self.old }
     {
         self.usage = Usage::from_u32(usage).unwrap_or(self.usage);
@@ -63,7 +90,8 @@ impl BufferObject {
     }
 
     /// Writes bytes over its own, from an offset on.
-    pub fn patch(&mut self, offset: usize, part: &[u8])
+    #[inline]
+    fn patch(&mut self, offset: usize, part: &[u8])
         requires { offset + length part.now ≤ length self.old.bytes }
         ensures { self.new ≡ patch offset part.now self.old }
     {

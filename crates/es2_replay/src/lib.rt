@@ -5,6 +5,7 @@
 
 mod buffer_commands;
 mod buffer_object;
+mod by_name;
 mod faults;
 mod machine;
 mod object_commands;

@@ -1,22 +1,22 @@
 ghost use Rattle.std.specs.Prelude.{◌≡◌, ◌+◌, ◌<◌, ◌^◌, None, is_some, OnOk, OnErr};
 ghost use Rattle.gl_model.specs.DriverState.{first_driver};
 ghost use Rattle.gl_model.specs.DriverStep.{refusal};
-ghost use Rattle.es2_replay.specs.Kept.{named, state_of};
+ghost use Rattle.es2_replay.specs.Named.{named};
+ghost use Rattle.es2_replay.specs.Kept.{state_of};
 ghost use Rattle.es2_replay.specs.Applied.{Acts, Applies};
 
-use crate::buffer_object::BufferObject;
+use crate::by_name::ByName;
 use crate::faults::{Fault, Shot};
 use command_stream::Command;
 use gl_numbers::{BufferBindings, GlError, Memory};
 use std::alloc::Global;
-use std::collections::BTreeMap;
 use std::marker::Model;
 
 /// The driver's machine: the buffers that are made, by name, what is bound, and how many commands were applied.
 #[derive(Drop)]
 pub struct Machine {
     pub(crate) alloc: Global,
-    pub(crate) buffers: BTreeMap<u32, BufferObject>,
+    pub(crate) buffers: ByName,
     pub(crate) bound: BufferBindings,
     count: u64,
 }
@@ -26,7 +26,7 @@ impl Model for Machine {
 
     ghost Value = { Kept };
 
-    ghost view = { λ m. record { made = m.buffers.entries; bound = m.bound; count = m.count } };
+    ghost view = { λ m. record { made = m.buffers; bound = m.bound; count = m.count } };
 }
 
 impl Machine {
@@ -37,7 +37,7 @@ impl Machine {
     {
         Machine {
             alloc,
-            buffers: BTreeMap::new(alloc),
+            buffers: ByName::new(alloc),
             bound: BufferBindings::new(),
             count: 0,
         }
@@ -54,7 +54,7 @@ impl Machine {
     pub(crate) fn is_made(&self, name: u32) -> bool
         ensures { result ≡ is_some (named self.now.made name) }
     {
-        self.buffers.contains_key(&name)
+        self.buffers.get(name).is_some()
     }
 
     /// Why a command is refused, if it is: the error of its first rule that applies.

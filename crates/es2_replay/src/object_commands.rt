@@ -2,6 +2,7 @@ ghost use Rattle.std.specs.Prelude.{◌≡◌, None, OnOk, OnErr};
 ghost use Rattle.command_stream.specs.declared.command.Command.TheVariants.{Object};
 ghost use Rattle.command_stream.specs.declared.object_commands.ObjectCommand.TheVariants.{MakeBuffer, DropBuffer};
 ghost use Rattle.gl_model.specs.DriverStep.{refusal, effect};
+ghost use Rattle.es2_replay.specs.Named.{named};
 ghost use Rattle.es2_replay.specs.Kept.{state_of};
 ghost use Rattle.es2_replay.specs.Applied.{Acts};
 
@@ -9,6 +10,13 @@ use crate::buffer_object::BufferObject;
 use crate::machine::Machine;
 use command_stream::ObjectCommand;
 use gl_numbers::{GlError, Memory};
+
+/// The names that `run` gives to the objects of a session are below this.
+const LISTED: u32 = 1_048_579;
+
+/// Names that may be given before as many commands were applied: the first names, and those of objects that no command
+/// makes.
+const AHEAD: u32 = 1024;
 
 impl Machine {
     /// Why a command that makes or drops an object is refused, if it is: a name is made once, and dropped while it is made.
@@ -44,15 +52,23 @@ impl Machine {
 
     /// MakeBuffer of a name that isn't made.
     fn make_buffer(&mut self, name: u32) -> Result<(), Memory>
+        requires { named self.old.made name ≡ None }
         ensures state { OnOk result (state_of self.new ≡ effect (state_of self.old) (Object (MakeBuffer name))) }
         ensures unchanged { OnErr result (self.new ≡ self.old) }
         ensures count { self.new.count ≡ self.old.count }
     {
+        let in_slot = self.has_room_for(name);
         let buffer = BufferObject::new(self.alloc);
-        let Ok(_) = self.buffers.insert(name, buffer) else {
+        let Ok(()) = self.buffers.insert(name, in_slot, buffer) else {
             return Err(Memory);
         };
         Ok(())
+    }
+
+    /// Whether the list of slots is to take a name. A stream names objects one after another, so that the list has a slot
+    /// for each command that was applied, and no stream makes it long by a few large names.
+    fn has_room_for(&self, name: u32) -> bool {
+        name < LISTED && u64::from(name.saturating_sub(AHEAD)) <= self.count()
     }
 
     /// DropBuffer: the name is made no longer, and bound no longer.
@@ -60,7 +76,7 @@ impl Machine {
         ensures state { state_of self.new ≡ effect (state_of self.old) (Object (DropBuffer name)) }
         ensures count { self.new.count ≡ self.old.count }
     {
-        let _gone = self.buffers.remove(&name);
+        self.buffers.remove(name);
         self.bound.unbind(name);
     }
 }

@@ -59,7 +59,7 @@ fn with_buffers(alloc: Global) -> Result<Machine, Fault>
 
 /// The buffer of a name has these bytes.
 fn holds(rt: &impl Abort, machine: &Machine, name: u32, expected: &[u8]) {
-    match machine.buffers.get(&name) {
+    match machine.buffers.get(name) {
         Some(buffer) => assert_eq!(rt; buffer.bytes(), expected, "buffer {name}"),
         None => assert!(rt; false, "buffer {name} is made"),
     }
@@ -215,5 +215,22 @@ fn a_dropped_name_is_bound_no_longer_and_comes_back_new(rt: HostRuntime) -> Resu
     assert_eq!(rt; machine.apply(&make(3)), Ok(None));
     holds(&rt, &machine, 3, &[]);
     assert_eq!(rt; machine.apply(&bind(ELEMENT_ARRAY, 3)), Ok(None));
+    Ok(())
+}
+
+#[test]
+fn names_of_any_size_hold_their_bytes(rt: HostRuntime) -> Result<(), Fail> {
+    for name in [6, 1024, 1032, 1_048_578, 1_048_579, 0xFFFF_FFFF] {
+        let mut machine = with_buffers(rt.alloc())?;
+        assert_eq!(rt; machine.apply(&make(name)), Ok(None), "{name}");
+        assert_eq!(rt; machine.apply(&bind(ARRAY, name)), Ok(None), "{name}");
+        assert_eq!(rt; machine.apply(&size(ARRAY, STATIC_DRAW, 2)), Ok(None));
+        assert_eq!(rt; machine.apply(&bytes(ARRAY, 1, &[7])), Ok(None));
+        holds(&rt, &machine, name, &[0, 7]);
+        holds(&rt, &machine, 3, &[1, 2, 3, 4]);
+        assert_eq!(rt; machine.apply(&drop_buffer(name)), Ok(None), "{name}");
+        assert_eq!(rt; machine.apply(&make(name)), Ok(None), "{name}");
+        holds(&rt, &machine, name, &[]);
+    }
     Ok(())
 }

@@ -1,6 +1,6 @@
 use Rattle.std.proofs.Common.{◌≡◌, ◌++◌, take, drop, length, sym, ap, ◌∙◌, inl, arith}
 use Rattle.command_stream.proofs.Pieces.{written-over, counted-part, counted-whole}
-use Rattle.command_stream.proofs.decoder.Decoder.feed.Goals as goal
+use Rattle.command_stream.proofs.decoder.Decoder.feed_held.Goals as goal
 
 pub invariant_of-self-in-Part : goal.invariant_of-self-in-Part
 invariant_of-self-in-Part c =
