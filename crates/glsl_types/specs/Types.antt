@@ -1,5 +1,5 @@
 -- Types with their array sizes (GLSL ES 1.00.17 section 4.1.9).
-use Rattle.std.specs.Prelude.{ℕ, ◌==◌, Bool, ◌&&◌}
+use Rattle.std.specs.Prelude.{◌==◌, Bool, ◌&&◌}
 use Rattle.glsl_types.specs.declared.bases.Base.{Base}
 use Rattle.glsl_types.specs.declared.types.SlType.{SlType}
 use Rattle.glsl_types.specs.Bases.{same_base}
