@@ -1,6 +1,7 @@
 ghost use Rattle.std.specs.Prelude.{◌≡◌, map};
 ghost use Rattle.std.specs.List.{list_any};
-ghost use Rattle.glsl_builtins.specs.Functions.{is_at, fits_at, size_for, plain_row, is_named, answer_in, answer_among, function, is_function};
+ghost use Rattle.glsl_builtins.specs.Functions.{is_at, fits_at, size_for, plain_row, is_named};
+ghost use Rattle.glsl_builtins.specs.Functions.{answer_in, answer_among, function, is_function};
 
 use crate::rows::{Form, FunctionRow};
 use crate::signatures::FUNCTIONS;
