@@ -124,7 +124,8 @@ def nesting_brackets(count):
     return "#if " + "(" * count + "1" + ")" * count + "\na\n#endif\n"
 
 
-LONG_NAME = "n" * 60_000
+# The longest name that is a token.
+LONG_NAME = "n" * 256
 
 # Each source with its name; those of the first part had taken seconds, minutes or gigabytes.
 SOURCES = [
@@ -151,8 +152,8 @@ SOURCES = [
     ("defined of 19,000 names", "#if " + "defined a && " * 19_000 + "1\n#endif\n"),
     ("a long name that doubles", define(LONG_NAME, "") + doubling("d", 17, LONG_NAME) + "d17"),
     ("131,072 tokens of a long text", doubling("d", 17, LONG_NAME) + "d17"),
-    ("names of 2,000 bytes that differ last", "".join(define("n" * 2_000 + str(n), "") for n in range(60)) + doubling("d", 20, ("n" * 2_000) + "59") + "d20"),
-    ("a long name in 1,000 calls", "#define f(x) x\n" + "f(" * 1_000 + "n" * 200_000 + ")" * 1_000),
+    ("900 names of 253 bytes that differ last", "".join(define("n" * 250 + str(n), "") for n in range(100, 1_000)) + doubling("d", 20, "n" * 250 + "999") + "d20"),
+    ("900 long names in 1,000 calls", "#define f(x) x\n" + "f(" * 1_000 + (LONG_NAME + " ") * 900 + ")" * 1_000),
     ("100,000 open brackets behind a macro", "#define f(x) x\n" + "f(" * 100_000),
     ("1,023 brackets in an #if", nesting_brackets(1_023)),
     ("1,023 macros one in another", chain(1_022, "1") + "m1022"),
