@@ -1,5 +1,5 @@
 -- The first item of a list, and the others.
-use Rattle.std.proofs.Common.{◌≡◌, ◌<◌, ◌≤◌, List, [], ◌∷◌, length, drop, get_or, refl, sym, ap, ◌∙◌, arith}
+use Rattle.std.proofs.Common.{◌≡◌, ◌<◌, ◌≤◌, ℕ, zero, suc, List, [], ◌∷◌, length, drop, get_or, refl, sym, ap, ◌∙◌, arith}
 use Rattle.std.proofs.lemmas.Bool.{eqb-true, eqb-false}
 use Rattle.std.proofs.Common.{eqb, Bool, true, false}
 
@@ -29,3 +29,18 @@ pub one_item : {X : Type 0} (xs : List X) (x : X) → 1 ≤ length xs → length
 one_item [] x h k e = absurd (omega arith)
 one_item (a ∷ []) x h k e = λ i. sym e i ∷ []
 one_item (a ∷ b ∷ xs) x h k e = absurd (omega arith)
+
+-- the same of what is left behind some items
+from_here : {X Y : Type 0} (F : List X → Y) (xs : List X) (k : ℕ) (x : X) → k < length xs → x ≡ get_or xs k x → F (drop k xs) ≡ F (x ∷ drop (suc k) xs)
+from_here F [] k x h e = absurd (omega arith)
+from_here F (y ∷ xs) zero x h e = ap (λ z. F (z ∷ xs)) (sym e)
+from_here F (y ∷ xs) (suc k) x h e = from_here F xs k x (omega arith) e
+
+pub first_dropped : {X Y : Type 0} (F : List X → Y) (xs : List X) (k j : ℕ) (x : X) → j ≡ suc k → k < length xs → x ≡ get_or xs k x → F (drop k xs) ≡ F (x ∷ drop j xs)
+first_dropped F xs k j x n h e = from_here F xs k x h e ∙ ap (λ i. F (x ∷ drop i xs)) (sym n)
+
+pub dropped_none : {X Y : Type 0} (F : List X → Y) (xs : List X) (k : ℕ) → length xs ≤ k → F (drop k xs) ≡ F []
+dropped_none F [] zero h = refl
+dropped_none F [] (suc k) h = refl
+dropped_none F (y ∷ xs) zero h = absurd (omega arith)
+dropped_none F (y ∷ xs) (suc k) h = dropped_none F xs k (omega arith)

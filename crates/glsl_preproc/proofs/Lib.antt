@@ -11,8 +11,8 @@ pub mod SourceText
 pub mod Items
 pub mod Same
 pub mod Slots
+pub mod NamePlaces
 pub mod Fitting
-pub mod Arguments
 pub mod ArgumentLists
 pub mod LoneClosers
 pub mod Substitution

@@ -18,7 +18,8 @@ use Rattle.std.proofs.lemmas.Slice.Eq.{bytes_eq-Decides}
 use Rattle.glsl_preproc.specs.declared.macros.Macro.{Macro}
 use Rattle.glsl_preproc.specs.Macros.{find_macro}
 use Rattle.glsl_preproc.specs.Views.{plain_macro}
-use Rattle.glsl_preproc.specs.MacroSlots.{live, is_named, is_place, place_of, IsIndexed}
+use Rattle.glsl_preproc.specs.NamePlaces.{place_of}
+use Rattle.glsl_preproc.specs.MacroSlots.{live, is_named, is_place, IsIndexed}
 
 -- the one place of a name
 abbrev Holds : List ℕ → List (Option Macro) → Option ℕ → Type 0

@@ -4,12 +4,11 @@ use Rattle.std.specs.Prelude.{if◌then◌else◌}
 use Rattle.glsl_preproc.specs.Macros.{PlainMacro, same_macro}
 use Rattle.glsl_preproc.specs.declared.directives.Standing.{Standing}
 use Rattle.glsl_preproc.specs.declared.directives.Standing.TheVariants.{New, Same, Other}
-use Rattle.glsl_preproc.specs.Views.{texts}
 use Rattle.glsl_preproc.specs.declared.directives.Parameters.{Parameters}
 
 abbrev pub names_of : Option Parameters → Option (List (List ℕ) × ℕ)
 names_of None = None
-names_of (Some p) = Some (texts p.names.items, p.count)
+names_of (Some p) = Some (p.names, p.count)
 
 -- the macros are those behind the directive where it may be, and it may not where there are none
 abbrev pub Changes : Option (List PlainMacro) → List PlainMacro → Bool → Type 0

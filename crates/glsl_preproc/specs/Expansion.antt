@@ -32,13 +32,13 @@ abbrev pub is_taken : Part → Bool
 is_taken Taken = true
 is_taken _ = false
 
-abbrev pub all_taken : List Conditional → Bool
-all_taken [] = true
-all_taken (c ∷ outer) = is_taken c.part
+abbrev pub innermost_taken : List Conditional → Bool
+innermost_taken [] = true
+innermost_taken (c ∷ outer) = is_taken c.part
 
 -- whether lines are read
 abbrev pub is_read : State → Bool
-is_read s = s.skipped == 0 && all_taken s.conditionals
+is_read s = s.skipped == 0 && innermost_taken s.conditionals
 
 abbrev pub failing : State → ℕ → Step
 failing s line = Stop (ended s.tokens (Failed line))

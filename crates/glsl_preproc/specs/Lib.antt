@@ -8,6 +8,7 @@ pub mod Conditions
 pub mod Directives
 pub mod Expansion
 pub mod Views
+pub mod NamePlaces
 pub mod MacroSlots
 pub mod ConditionViews
 pub mod DirectiveViews

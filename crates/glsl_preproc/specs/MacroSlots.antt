@@ -1,12 +1,8 @@
 -- The macros by name: each stands in the slot of its place.
-use Rattle.std.specs.Prelude.{ℕ, ◌==◌, ◌≡◌, Bool, false, List, get_or, Option, Some, None, Vec}
+use Rattle.std.specs.Prelude.{ℕ, ◌==◌, ◌≡◌, Bool, false, List, get_or, Option, Some, None}
 use Rattle.std.specs.Option.{option_map}
 use Rattle.std.specs.List.{filter_map}
 use Rattle.std.specs.Str.{bytes_eq}
-use Rattle.std.specs.Ordering.{nat_cmp}
-use Rattle.std.specs.Cmp.Lexicographic.{slice_cmp}
-use Rattle.std.specs.BTreeMap.{BTreeMap, get_by}
-use Rattle.std.specs.declared.alloc.Global.{Global}
 use Rattle.glsl_preproc.specs.Macros.{PlainMacro}
 use Rattle.glsl_preproc.specs.Views.{plain_macro}
 use Rattle.glsl_preproc.specs.declared.macros.Macro.{Macro}
@@ -24,10 +20,6 @@ is_named name (Some m) = bytes_eq m.name.items name
 abbrev pub is_place : ℕ → Option ℕ → Bool
 is_place i None = false
 is_place i (Some j) = i == j
-
--- the place of a name
-abbrev pub place_of : BTreeMap (Vec ℕ Global) ℕ → List ℕ → Option ℕ
-place_of places name = get_by (λ k. slice_cmp nat_cmp name k.items) places
 
 -- a slot has the macro of a name just where it is at the name's place
 abbrev pub IsIndexed : List (Option Macro) → (List ℕ → Option ℕ) → Type 0

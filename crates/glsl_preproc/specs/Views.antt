@@ -1,7 +1,7 @@
 -- What the code keeps, as the definitions see it.
 use Rattle.std.specs.Prelude.{ℕ, ◌≡◌, ◌<◌, ◌≤◌, length, Result, Ok, Err, List, [], map, Option, Some, None}
-use Rattle.std.specs.Option.{option_map}
 use Rattle.std.specs.Prelude.{Vec}
+use Rattle.std.specs.Borrow.{Bor}
 use Rattle.std.specs.declared.alloc.Global.{Global}
 use Rattle.glsl_tree.specs.Token.{PlainToken, plain_tokens}
 use Rattle.glsl_preproc.specs.Macros.{PlainMacro}
@@ -22,27 +22,31 @@ abbrev pub texts : List (Vec ℕ Global) → List (List ℕ)
 texts names = map (λ v. v.items) names
 
 abbrev pub plain_macro : Macro → PlainMacro
-plain_macro m = record { name = m.name.items; parameters = option_map (λ v. texts v.items) m.parameters; body = plain_tokens m.body.items }
+plain_macro m = record { name = m.name.items; parameters = m.parameters; body = plain_tokens m.body.items }
 
 -- each list of tokens
 abbrev pub lists : List (Vec Token Global) → List (List PlainToken)
 lists arguments = map (λ v. plain_tokens v.items) arguments
 
+-- the same of lists that stand in another
+abbrev pub slices : List (Bor (List Token)) → List (List PlainToken)
+slices arguments = map (λ s. plain_tokens s.now) arguments
+
 abbrev pub found_of : Option Arguments → Option (List (List PlainToken) × ℕ)
 found_of None = None
-found_of (Some a) = Some (lists a.lists.items, a.count)
+found_of (Some a) = Some (slices a.lists.items, a.count)
 
 -- the parameters of a macro that takes some
-abbrev pub parameters_of : Option (Vec (Vec ℕ Global) Global) → List (List ℕ)
+abbrev pub parameters_of : Option (List (List ℕ)) → List (List ℕ)
 parameters_of None = []
-parameters_of (Some v) = texts v.items
+parameters_of (Some names) = names
 
 -- the code's finding is what the token is
 abbrev pub use_view : Found → Use
 use_view found.Kept = Kept
 use_view found.LineNumber = LineNumber
 use_view (found.Object m) = Object (plain_macro m.now)
-use_view (found.Call m a) = Call (plain_macro m.now) (parameters_of m.now.parameters) (lists a.lists.items) a.count
+use_view (found.Call m a) = Call (plain_macro m.now) (parameters_of m.now.parameters) (slices a.lists.items) a.count
 use_view found.WrongCount = WrongCount
 
 -- a call takes no more tokens than these

@@ -1,29 +1,29 @@
-ghost use Rattle.std.specs.Prelude.{◌≡◌, ◌≤◌, ◌<◌, ◌+◌, ◌-◌, ◌==◌, ◌&&◌, if◌then◌else◌, [], IfOk, IfSome, OnOk, length};
-ghost use Rattle.std.specs.List.{list_any};
-ghost use Rattle.std.specs.Str.{bytes_eq};
+ghost use Rattle.std.specs.Prelude.{◌≡◌, ◌≤◌, ◌<◌, ◌+◌, ◌-◌, ◌==◌, ◌&&◌, if◌then◌else◌, [], ◌∷◌, ◌++◌, IfOk, IfSome, OnOk, length};
 ghost use Rattle.glsl_tree.specs.Token.{plain, plain_tokens};
 ghost use Rattle.glsl_preproc.specs.Replacement.{opens, closes, is_comma, arguments_from, fits_parameters, called, used, use_of};
 ghost use Rattle.glsl_preproc.specs.LoneClosers.{AreCounts};
-ghost use Rattle.glsl_preproc.specs.Views.{plain_macro, texts, found_of, lists, parameters_of, use_view, IsWithin};
+ghost use Rattle.glsl_preproc.specs.Views.{plain_macro, texts, found_of, slices, parameters_of, use_view, IsWithin};
 
 use crate::brackets::Brackets;
 use crate::macro_table::MacroTable;
 use crate::macros::Macro;
-use crate::tokens::{closes, is_comma, is_name, is_text, opens, push_copy, push_list};
+use crate::names::Names;
+use crate::tokens::{closes, is_comma, is_name, is_text, opens};
+use crate::work::spend_scan;
 use glsl_tree::Token;
 use std::alloc::{AllocError, Global};
 
 /// The arguments of a call, and how many tokens it takes behind its name.
-#[derive(Debug, Drop)]
-pub struct Arguments {
-    /// The tokens of each argument.
-    pub lists: Vec<Vec<Token>>,
+#[derive(Drop)]
+pub struct Arguments<'a> {
+    /// The tokens of each argument, which stand in the list of the call.
+    pub lists: Vec<&'a [Token]>,
     /// How many tokens stand from the `(` to the `)`.
     pub count: usize,
 }
 
 /// What a token is in the list that is expanded.
-#[derive(Debug, Drop)]
+#[derive(Drop)]
 pub enum Use<'a> {
     /// It is kept as it is.
     Kept,
@@ -32,7 +32,7 @@ pub enum Use<'a> {
     /// The name of a macro without parameters.
     Object(&'a Macro),
     /// A call of a macro, with its arguments.
-    Call(&'a Macro, Arguments),
+    Call(&'a Macro, Arguments<'a>),
     /// A call with another number of arguments.
     WrongCount,
 }
@@ -63,31 +63,49 @@ fn depth_behind(depth: usize, token: &Token) -> usize
     }
 }
 
+/// The tokens of an argument.
+pub fn as_tokens<'a>(argument: &'a &[Token]) -> &'a [Token]
+    ensures { result.now ≡ argument.now.now }
+{
+    argument
+}
+
+/// Adds an argument.
+fn push_argument<'a>(lists: &mut Vec<&'a [Token]>, list: &'a [Token]) -> Result<(), AllocError>
+    ensures { OnOk result (slices lists.new.items ≡ slices lists.old.items ++ plain_tokens list.now ∷ []) }
+{
+    lists.push(list)?;
+    Ok(())
+}
+
 /// The arguments of a call, from the first token behind its `(` on, if its `)` comes.
-pub fn arguments_at(alloc: Global, list: &[Token]) -> Result<Option<Arguments>, AllocError>
+pub fn arguments_at<'a>(
+    alloc: Global,
+    work: &mut u32,
+    list: &'a [Token],
+) -> Result<Option<Arguments<'a>>, AllocError>
     ensures found { IfOk result (λ found. found_of found ≡ arguments_from [] [] 0 1 (plain_tokens list.now)) }
     ensures within { IfOk result (λ found. IfSome found (λ a. a.count ≤ length list.now + 1)) }
 {
     let mut lists = Vec::new(alloc);
-    let mut current = Vec::new(alloc);
+    let mut start = list;
     let mut depth = 0usize;
     let mut rest = list;
     while !rest.is_empty() {
+        spend_scan(work)?;
         let token = &rest[0];
         let tail = rest.split_at(1).1;
         if opens(token) {
             depth += 1;
-            push_copy(alloc, &mut current, token)?;
         } else if ends_call(depth, token) {
-            push_list(&mut lists, current)?;
+            push_argument(&mut lists, start.split_at(start.len() - rest.len()).0)?;
             let count = 1 + (list.len() - tail.len());
             return Ok(Some(Arguments { lists, count }));
         } else if parts_arguments(depth, token) {
-            push_list(&mut lists, current)?;
-            current = Vec::new(alloc);
+            push_argument(&mut lists, start.split_at(start.len() - rest.len()).0)?;
+            start = tail;
         } else {
             depth = depth_behind(depth, token);
-            push_copy(alloc, &mut current, token)?;
         }
         rest = tail;
     }
@@ -95,8 +113,8 @@ pub fn arguments_at(alloc: Global, list: &[Token]) -> Result<Option<Arguments>, 
 }
 
 /// Whether there are as many arguments as parameters. No parameter takes one argument without tokens.
-fn fits_parameters(parameters: &[Vec<u8>], arguments: &[Vec<Token>]) -> bool
-    ensures { result ≡ fits_parameters (texts parameters.now) (lists arguments.now) }
+fn fits_parameters(parameters: &[Vec<u8>], arguments: &[&[Token]]) -> bool
+    ensures { result ≡ fits_parameters (texts parameters.now) (slices arguments.now) }
 {
     if parameters.is_empty() {
         match arguments {
@@ -109,7 +127,7 @@ fn fits_parameters(parameters: &[Vec<u8>], arguments: &[Vec<Token>]) -> bool
 }
 
 /// The parameters of a macro, none where it takes no list of them.
-pub fn parameters_of(m: &Macro) -> &[Vec<u8>]
+fn parameters_of(m: &Macro) -> &[Vec<u8>]
     ensures { texts result.now ≡ parameters_of m.now.parameters }
 {
     match &m.parameters {
@@ -125,7 +143,8 @@ fn use_of_call<'a>(
     alloc: Global,
     m: &'a Macro,
     brackets: &Brackets,
-    rest: &[Token],
+    work: &mut u32,
+    rest: &'a [Token],
 ) -> Result<Use<'a>, AllocError>
     requires { AreCounts brackets.now.counts.items (plain_tokens rest.now) }
     ensures used { IfOk result (λ found. use_view found ≡ called (plain_macro m.now) (parameters_of m.now.parameters)
@@ -135,7 +154,7 @@ fn use_of_call<'a>(
     if !brackets.may_close(rest) {
         return Ok(Use::Kept);
     }
-    let Some(arguments) = arguments_at(alloc, rest)? else {
+    let Some(arguments) = arguments_at(alloc, work, rest)? else {
         return Ok(Use::Kept);
     };
     if fits_parameters(parameters_of(m), arguments.lists.as_slice()) {
@@ -151,7 +170,8 @@ fn use_of_macro<'a>(
     alloc: Global,
     m: &'a Macro,
     brackets: &mut Brackets,
-    rest: &[Token],
+    work: &mut u32,
+    rest: &'a [Token],
 ) -> Result<Use<'a>, AllocError>
     requires { AreCounts brackets.old.counts.items (plain_tokens rest.now) }
     ensures used { IfOk result (λ found. use_view found ≡ used (plain_macro m.now) (plain_macro m.now).parameters (plain_tokens rest.now)) }
@@ -164,22 +184,10 @@ fn use_of_macro<'a>(
     match rest {
         [first, tail @ ..] if opens(first) => {
             brackets.count(alloc, rest)?;
-            use_of_call(alloc, m, brackets, tail)
+            use_of_call(alloc, m, brackets, work, tail)
         }
         _ => Ok(Use::Kept),
     }
-}
-
-/// Whether a name is hidden.
-fn is_hidden(hidden: &[Vec<u8>], name: &[u8]) -> bool
-    ensures { result ≡ list_any (λ h. bytes_eq h name.now) (texts hidden.now) }
-{
-    for h in hidden {
-        if h.as_slice() == name {
-            return true;
-        }
-    }
-    false
 }
 
 /// What a token is, with the tokens behind it in its list, where some names are hidden.
@@ -187,13 +195,14 @@ fn is_hidden(hidden: &[Vec<u8>], name: &[u8]) -> bool
 pub fn use_of<'a>(
     alloc: Global,
     macros: &'a MacroTable,
-    hidden: &[Vec<u8>],
+    hidden: &Names,
     brackets: &mut Brackets,
+    work: &mut u32,
     token: &Token,
-    rest: &[Token],
+    rest: &'a [Token],
 ) -> Result<Use<'a>, AllocError>
     requires { AreCounts brackets.old.counts.items (plain_tokens rest.now) }
-    ensures used { IfOk result (λ found. use_view found ≡ use_of macros.now (texts hidden.now) (plain token.now) (plain_tokens rest.now)) }
+    ensures used { IfOk result (λ found. use_view found ≡ use_of macros.now hidden.now (plain token.now) (plain_tokens rest.now)) }
     ensures within { IfOk result (λ found. IsWithin (length rest.now) found) }
     ensures counts { OnOk result (AreCounts brackets.new.counts.items (plain_tokens rest.now)) }
 {
@@ -203,11 +212,11 @@ pub fn use_of<'a>(
     if is_text(token, b"__LINE__") {
         return Ok(Use::LineNumber);
     }
-    if is_hidden(hidden, token.text.as_slice()) {
+    if hidden.contains(token.text.as_slice()) {
         return Ok(Use::Kept);
     }
     match macros.find(token.text.as_slice()) {
         None => Ok(Use::Kept),
-        Some(m) => use_of_macro(alloc, m, brackets, rest),
+        Some(m) => use_of_macro(alloc, m, brackets, work, rest),
     }
 }

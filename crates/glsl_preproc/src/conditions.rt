@@ -7,11 +7,13 @@ ghost use Rattle.glsl_preproc.specs.ConditionViews.{signed, sign_of, parsed_of, 
 use crate::defined::answered;
 use crate::errors::Pre;
 use crate::macro_table::MacroTable;
+use crate::names::Names;
 use crate::numbers::int_value;
 use crate::operators::Operator;
-use crate::replacement::{WORK, expand_list};
+use crate::replacement::expand_list;
 use crate::tokens::{closes, is_text, opens};
 use crate::values::{applied, complemented, inverted, level_of, negated, operator_of};
+use crate::work::WORK;
 use glsl_tree::{Class, Token};
 use std::alloc::Global;
 
@@ -222,7 +224,7 @@ pub fn condition(
     let Some(resolved) = found else {
         return Judged::Fails;
     };
-    let mut hidden = Vec::new(alloc);
+    let mut hidden = Names::new(alloc);
     let mut tokens = Vec::new(alloc);
     match expand_list(
         alloc,

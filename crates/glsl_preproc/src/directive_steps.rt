@@ -2,8 +2,10 @@ use crate::directives::{are_line_numbers, define, is_extension, is_version, kind
 use crate::errors::Pre;
 use crate::hashes::{behind_name, failing_hash};
 use crate::kinds::Kind;
+use crate::names::Names;
 use crate::reader::{LEVELS, Reader};
-use crate::replacement::{WORK, expand_list};
+use crate::replacement::expand_list;
+use crate::work::WORK;
 use glsl_tree::Token;
 use std::alloc::Global;
 
@@ -36,7 +38,7 @@ impl Reader {
             (expanded 1024 (state_of self.old).macros [] [] (plain_tokens list.now))) (state_of self.new) result }
         ensures within { length self.new.tokens.items ≤ 131072 }
     {
-        let mut hidden = Vec::new(alloc);
+        let mut hidden = Names::new(alloc);
         let mut tokens = Vec::new(alloc);
         match expand_list(
             alloc,

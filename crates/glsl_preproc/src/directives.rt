@@ -5,13 +5,14 @@ ghost use Rattle.std.specs.Str.{bytes_eq};
 ghost use Rattle.glsl_tree.specs.Token.{plain, plain_tokens};
 ghost use Rattle.glsl_preproc.specs.Macros.{is_name_token, find_macro};
 ghost use Rattle.glsl_preproc.specs.Directives.{kind_of_name, kind_of, parameters_from, parameters_at, macro_of, definition_of, after_define, after_undef, asked_defined, is_version, is_offered, is_extension, are_line_numbers};
-ghost use Rattle.glsl_preproc.specs.Views.{plain_macro, texts};
+ghost use Rattle.glsl_preproc.specs.Views.{plain_macro};
 ghost use Rattle.glsl_preproc.specs.DirectiveViews.{names_of, standing, Changes};
 
 use crate::kinds::Kind;
 use crate::macro_table::{MacroTable, is_reserved, same_macro};
 use crate::macros::Macro;
-use crate::tokens::{closes, copy_of, is_comma, is_int, is_name, is_params, is_text, push_name};
+use crate::names::Names;
+use crate::tokens::{closes, copy_of, is_comma, is_int, is_name, is_params, is_text};
 use glsl_tree::Token;
 use std::alloc::{AllocError, Global};
 
@@ -64,31 +65,19 @@ pub fn kind_of(list: &[Token]) -> Kind
 }
 
 /// The names of a macro's parameters.
-#[derive(Debug, Drop)]
+#[derive(Drop)]
 struct Parameters {
     /// The names, in order.
-    names: Vec<Vec<u8>>,
+    names: Names,
     /// How many tokens they take behind the `(`, the `)` among them.
     count: usize,
 }
 
-/// Whether a name is among others.
-fn is_among(names: &[Vec<u8>], name: &[u8]) -> bool
-    ensures { result ≡ list_any (λ p. bytes_eq p name.now) (texts names.now) }
-{
-    for n in names {
-        if n.as_slice() == name {
-            return true;
-        }
-    }
-    false
-}
-
 /// Whether the token is a name that is not among others.
-fn is_new_name(names: &[Vec<u8>], token: &Token) -> bool
-    ensures { result ≡ (is_name_token (plain token.now) && not (list_any (λ p. bytes_eq p token.now.text.items) (texts names.now))) }
+fn is_new_name(names: &Names, token: &Token) -> bool
+    ensures { result ≡ (is_name_token (plain token.now) && not (list_any (λ p. bytes_eq p token.now.text.items) names.now)) }
 {
-    is_name(token) && !is_among(names, token.text.as_slice())
+    is_name(token) && !names.contains(token.text.as_slice())
 }
 
 /// One parameter at least, where different names stand there, parted by commas, and a `)` behind the last.
@@ -96,16 +85,16 @@ fn parameters_from(alloc: Global, list: &[Token]) -> Result<Option<Parameters>, 
     ensures found { IfOk result (λ found. names_of found ≡ parameters_from [] 0 (plain_tokens list.now)) }
     ensures within { IfOk result (λ found. IfSome found (λ p. p.count ≤ length list.now)) }
 {
-    let mut names = Vec::new(alloc);
+    let mut names = Names::new(alloc);
     let mut rest = list;
     while rest.len() >= 2 {
         let name = &rest[0];
         let separator = &rest[1];
         let tail = rest.split_at(2).1;
-        if !is_new_name(names.as_slice(), name) {
+        if !is_new_name(&names, name) {
             return Ok(None);
         }
-        push_name(alloc, &mut names, name.text.as_slice())?;
+        names.push(alloc, name.text.as_slice())?;
         if closes(separator) {
             let count = list.len() - tail.len();
             return Ok(Some(Parameters { names, count }));
@@ -127,7 +116,7 @@ fn parameters_at(alloc: Global, list: &[Token]) -> Result<Option<Parameters>, Al
     match list {
         [] => Ok(None),
         [first, ..] if closes(first) => Ok(Some(Parameters {
-            names: Vec::new(alloc),
+            names: Names::new(alloc),
             count: 1,
         })),
         _ => parameters_from(alloc, list),

@@ -6,6 +6,6 @@ pub enum Pre {
     /// The expansion has more than 131,072 tokens.
     TooLong,
     /// Memory is wanting, or the source asks for too much work: macro calls, replacements, brackets or signs that nest
-    /// deeper than 1,024 levels, or more than 16,777,216 tokens handled.
+    /// deeper than 1,024 levels, or more than 4,194,304 units of work.
     Memory,
 }

@@ -18,6 +18,7 @@ mod hashes;
 mod kinds;
 mod macro_table;
 mod macros;
+mod names;
 mod numbers;
 mod operators;
 mod parameters;
@@ -26,10 +27,9 @@ mod replacement;
 mod run;
 mod tokens;
 mod values;
+mod work;
 
 pub use errors::Pre;
-pub use kinds::Kind;
-pub use operators::Operator;
 pub use run::expand;
 
 #[cfg(test)]

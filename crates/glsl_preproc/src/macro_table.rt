@@ -7,6 +7,7 @@ ghost use Rattle.glsl_preproc.specs.Macros.{find_macro, is_defined, has_double_u
 ghost use Rattle.glsl_preproc.specs.Views.{plain_macro, texts};
 
 use crate::macros::Macro;
+use crate::names::Names;
 use crate::tokens::{class_number, number_token};
 use glsl_tree::Token;
 use std::alloc::{AllocError, Global};
@@ -26,7 +27,8 @@ pub struct MacroTable {
 impl Model for MacroTable {
     ghost use Rattle.std.specs.Prelude.{List};
     ghost use Rattle.glsl_preproc.specs.Macros.{PlainMacro};
-    ghost use Rattle.glsl_preproc.specs.MacroSlots.{live, place_of, IsIndexed};
+    ghost use Rattle.glsl_preproc.specs.NamePlaces.{place_of};
+    ghost use Rattle.glsl_preproc.specs.MacroSlots.{live, IsIndexed};
 
     ghost Value = { List PlainMacro };
 
@@ -167,8 +169,8 @@ fn same_names(a: &[Vec<u8>], b: &[Vec<u8>]) -> bool
 }
 
 /// Whether two macros take the same parameters, or both take none.
-fn same_parameters(a: &Option<Vec<Vec<u8>>>, b: &Option<Vec<Vec<u8>>>) -> bool
-    ensures { result ≡ same_parameters (option_map (λ v. texts v.items) a.now) (option_map (λ v. texts v.items) b.now) }
+fn same_parameters(a: &Option<Names>, b: &Option<Names>) -> bool
+    ensures { result ≡ same_parameters a.now b.now }
 {
     match (a, b) {
         (None, None) => true,

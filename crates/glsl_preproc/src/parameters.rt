@@ -2,34 +2,28 @@ ghost use Rattle.std.specs.Prelude.{◌≡◌, ◌++◌, IfOk, OnOk};
 ghost use Rattle.std.specs.Option.{option_map};
 ghost use Rattle.glsl_tree.specs.Token.{plain, plain_tokens};
 ghost use Rattle.glsl_preproc.specs.Replacement.{argument_of, argument_or, substituted, at_line};
-ghost use Rattle.glsl_preproc.specs.Views.{texts, lists};
+ghost use Rattle.glsl_preproc.specs.Views.{parameters_of, lists};
 
-use crate::macro_table::same_text;
+use crate::names::Names;
 use crate::tokens::{append_at_line, copy_at};
 use glsl_tree::Token;
 use std::alloc::{AllocError, Global};
 
 /// The argument for a name, among those of the parameters.
-fn argument_of<'a>(
-    parameters: &[Vec<u8>],
+pub fn argument_of<'a>(
+    parameters: &Option<Names>,
     arguments: &'a [Vec<Token>],
     name: &[u8],
 ) -> Option<&'a Vec<Token>>
-    ensures { option_map (λ v. plain_tokens v.now.items) result ≡ argument_of (texts parameters.now) (lists arguments.now) name.now }
+    ensures { option_map (λ v. plain_tokens v.now.items) result ≡ argument_of (parameters_of parameters.now) (lists arguments.now) name.now }
 {
-    let mut names = parameters;
-    let mut rest = arguments;
-    while !names.is_empty() {
-        if rest.is_empty() {
-            return None;
-        }
-        if same_text(names[0].as_slice(), name) {
-            return Some(&rest[0]);
-        }
-        names = names.split_at(1).1;
-        rest = rest.split_at(1).1;
+    match parameters {
+        None => None,
+        Some(names) => match names.place(name) {
+            Some(place) if place < arguments.len() => Some(&arguments[place]),
+            _ => None,
+        },
     }
-    None
 }
 
 /// Adds the tokens of an argument, or the token where it is none of a parameter's name.
@@ -55,13 +49,13 @@ fn append_argument(
 /// A replacement with the arguments in the places of the parameters.
 pub fn substituted(
     alloc: Global,
-    parameters: &[Vec<u8>],
+    parameters: &Option<Names>,
     arguments: &[Vec<Token>],
     line: u32,
     body: &[Token],
 ) -> Result<Vec<Token>, AllocError>
     ensures { IfOk result (λ tokens. plain_tokens tokens.items ≡ substituted
-        (texts parameters.now) (lists arguments.now) line (plain_tokens body.now)) }
+        (parameters_of parameters.now) (lists arguments.now) line (plain_tokens body.now)) }
 {
     let mut out = Vec::new(alloc);
     let mut rest = body;

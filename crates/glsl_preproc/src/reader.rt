@@ -2,8 +2,10 @@ use crate::conditionals::{Conditional, Part};
 use crate::errors::Pre;
 use crate::hashes::{append_before_hash, stray_hash};
 use crate::macro_table::{MacroTable, first_macros};
-use crate::replacement::{WORK, expand_list};
+use crate::names::Names;
+use crate::replacement::expand_list;
 use crate::tokens::{append_copies, is_hash};
+use crate::work::WORK;
 use glsl_tree::Token;
 use std::alloc::{AllocError, Global};
 
@@ -28,7 +30,7 @@ pub struct Reader {
     pub tokens: Vec<Token>,
     /// Whether no token has come yet.
     pub fresh: bool,
-    /// How many more tokens may be handled.
+    /// How much more work may be done.
     pub work: u32,
 }
 
@@ -72,7 +74,7 @@ impl Reader {
         ensures step { Steps (flushed 1024 (state_of self.old)) (state_of self.new) result }
         ensures within { length self.new.tokens.items ≤ 131072 }
     {
-        let mut hidden = Vec::new(alloc);
+        let mut hidden = Names::new(alloc);
         match expand_list(
             alloc,
             &self.macros,

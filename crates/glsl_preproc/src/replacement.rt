@@ -1,31 +1,19 @@
 ghost use Rattle.std.specs.Prelude.{ℕ, ◌≡◌, ◌≤◌, ◌+◌, [], ◌∷◌, ◌++◌, IfErr, OnOk, length};
 ghost use Rattle.glsl_tree.specs.Token.{plain, plain_tokens};
 ghost use Rattle.glsl_preproc.specs.Replacement.{substituted, expanded, expanded_arguments, at_line, call_outcome};
-ghost use Rattle.glsl_preproc.specs.Views.{plain_macro, texts, lists, parameters_of, Expands, ExpandsArguments, argument_error};
+ghost use Rattle.glsl_preproc.specs.Views.{plain_macro, slices, parameters_of, Expands, ExpandsArguments, argument_error};
 
 use crate::brackets::Brackets;
-use crate::calls::{Arguments, Use, parameters_of, use_of};
+use crate::calls::{Arguments, Use, as_tokens, use_of};
 use crate::errors::Pre;
 use crate::macro_table::MacroTable;
 use crate::macros::Macro;
+use crate::names::Names;
 use crate::parameters::substituted;
-use crate::tokens::{append_at_line, copy_of, line_number, push_list, push_name};
+use crate::tokens::{append_at_line, copy_of, line_number, push_list};
+use crate::work::{WORK, spend_copies, spend_copy, spend_list, spend_substituted, spend_token};
 use glsl_tree::Token;
 use std::alloc::Global;
-
-/// The most tokens that one expansion handles, 16,777,216.
-pub const WORK: u32 = 16_777_216;
-
-/// Takes so many tokens from the work that is left.
-fn spend(work: &mut u32, tokens: usize) -> Result<(), Pre> {
-    match u32::try_from(tokens) {
-        Ok(tokens) if tokens <= *work => {
-            *work -= tokens;
-            Ok(())
-        }
-        _ => Err(Pre::Memory),
-    }
-}
 
 /// Adds a token, where there is room for it.
 fn push_within(out: &mut Vec<Token>, limit: usize, token: Token) -> Result<(), Pre>
@@ -50,35 +38,41 @@ pub fn expand_list(
     alloc: Global,
     macros: &MacroTable,
     levels: u32,
-    hidden: &mut Vec<Vec<u8>>,
+    hidden: &mut Names,
     work: &mut u32,
     list: &[Token],
     out: &mut Vec<Token>,
     limit: usize,
 ) -> Result<(), Pre>
     requires { length out.old.items ≤ limit }
-    ensures outcome { Expands limit (expanded levels macros.now (texts hidden.old.items) (plain_tokens out.old.items)
+    ensures outcome { Expands limit (expanded levels macros.now hidden.old (plain_tokens out.old.items)
         (plain_tokens list.now)) (plain_tokens out.new.items) result }
-    ensures hidden { OnOk result (texts hidden.new.items ≡ texts hidden.old.items) }
+    ensures hidden { OnOk result (hidden.new ≡ hidden.old) }
     ensures within { length out.new.items ≤ limit }
 {
     if levels == 0 {
         return Err(Pre::Memory);
     }
     let below = levels - 1;
+    let Ok(()) = spend_list(work) else {
+        return Err(Pre::Memory);
+    };
     let mut brackets = Brackets::new(alloc);
     let mut rest = list;
     while !rest.is_empty() {
-        let Ok(()) = spend(work, 1) else {
+        let token = &rest[0];
+        let Ok(()) = spend_token(work, token) else {
             return Err(Pre::Memory);
         };
-        let token = &rest[0];
         let tail = rest.split_at(1).1;
-        let Ok(found) = use_of(alloc, macros, hidden.as_slice(), &mut brackets, token, tail) else {
+        let Ok(found) = use_of(alloc, macros, hidden, &mut brackets, work, token, tail) else {
             return Err(Pre::Memory);
         };
         match found {
             Use::Kept => {
+                let Ok(()) = spend_copy(work, token) else {
+                    return Err(Pre::Memory);
+                };
                 let Ok(copy) = copy_of(alloc, token) else {
                     return Err(Pre::Memory);
                 };
@@ -88,6 +82,9 @@ pub fn expand_list(
                 }
             }
             Use::LineNumber => {
+                let Ok(()) = spend_copy(work, token) else {
+                    return Err(Pre::Memory);
+                };
                 let Ok(number) = line_number(alloc, token) else {
                     return Err(Pre::Memory);
                 };
@@ -122,7 +119,7 @@ fn rescan(
     alloc: Global,
     macros: &MacroTable,
     levels: u32,
-    hidden: &mut Vec<Vec<u8>>,
+    hidden: &mut Names,
     work: &mut u32,
     name: &[u8],
     list: &[Token],
@@ -130,17 +127,17 @@ fn rescan(
     limit: usize,
 ) -> Result<(), Pre>
     requires { length out.old.items ≤ limit }
-    ensures outcome { Expands limit (expanded levels macros.now (texts hidden.old.items ++ name.now ∷ [])
+    ensures outcome { Expands limit (expanded levels macros.now (hidden.old ++ name.now ∷ [])
         (plain_tokens out.old.items) (plain_tokens list.now)) (plain_tokens out.new.items) result }
-    ensures hidden { OnOk result (texts hidden.new.items ≡ texts hidden.old.items) }
+    ensures hidden { OnOk result (hidden.new ≡ hidden.old) }
     ensures within { length out.new.items ≤ limit }
 {
-    let Ok(()) = push_name(alloc, hidden, name) else {
+    let Ok(()) = hidden.push(alloc, name) else {
         return Err(Pre::Memory);
     };
     match expand_list(alloc, macros, levels, hidden, work, list, out, limit) {
         Ok(()) => {
-            let _name = hidden.pop();
+            hidden.pop();
             Ok(())
         }
         Err(e) => Err(e),
@@ -153,7 +150,7 @@ fn expand_object(
     alloc: Global,
     macros: &MacroTable,
     levels: u32,
-    hidden: &mut Vec<Vec<u8>>,
+    hidden: &mut Names,
     work: &mut u32,
     name: &Token,
     m: &Macro,
@@ -161,11 +158,14 @@ fn expand_object(
     limit: usize,
 ) -> Result<(), Pre>
     requires { length out.old.items ≤ limit }
-    ensures outcome { Expands limit (expanded levels macros.now (texts hidden.old.items ++ name.now.text.items ∷ [])
+    ensures outcome { Expands limit (expanded levels macros.now (hidden.old ++ name.now.text.items ∷ [])
         (plain_tokens out.old.items) (at_line name.now.line (plain_tokens m.now.body.items))) (plain_tokens out.new.items) result }
-    ensures hidden { OnOk result (texts hidden.new.items ≡ texts hidden.old.items) }
+    ensures hidden { OnOk result (hidden.new ≡ hidden.old) }
     ensures within { length out.new.items ≤ limit }
 {
+    let Ok(()) = spend_copies(work, m.body.as_slice()) else {
+        return Err(Pre::Memory);
+    };
     let mut list = Vec::new(alloc);
     let Ok(()) = append_at_line(alloc, &mut list, m.body.as_slice(), name.line) else {
         return Err(Pre::Memory);
@@ -199,17 +199,17 @@ fn expand_arguments(
     alloc: Global,
     macros: &MacroTable,
     levels: u32,
-    hidden: &mut Vec<Vec<u8>>,
+    hidden: &mut Names,
     work: &mut u32,
-    arguments: &[Vec<Token>],
+    arguments: &[&[Token]],
 ) -> Result<Vec<Vec<Token>>, Pre>
-    ensures outcome { ExpandsArguments (expanded_arguments (expanded levels macros.now (texts hidden.old.items) []) []
-        (lists arguments.now)) result }
-    ensures hidden { OnOk result (texts hidden.new.items ≡ texts hidden.old.items) }
+    ensures outcome { ExpandsArguments (expanded_arguments (expanded levels macros.now hidden.old []) []
+        (slices arguments.now)) result }
+    ensures hidden { OnOk result (hidden.new ≡ hidden.old) }
 {
     let mut done = Vec::new(alloc);
-    let mut rest = arguments;
-    while !rest.is_empty() {
+    let mut at = 0usize;
+    while at < arguments.len() {
         let mut tokens = Vec::new(alloc);
         match expand_list(
             alloc,
@@ -217,7 +217,7 @@ fn expand_arguments(
             levels,
             hidden,
             work,
-            rest[0].as_slice(),
+            as_tokens(&arguments[at]),
             &mut tokens,
             WORK as usize,
         ) {
@@ -227,7 +227,7 @@ fn expand_arguments(
         let Ok(()) = push_list(&mut done, tokens) else {
             return Err(Pre::Memory);
         };
-        rest = rest.split_at(1).1;
+        at += 1;
     }
     Ok(done)
 }
@@ -238,7 +238,7 @@ fn expand_call(
     alloc: Global,
     macros: &MacroTable,
     levels: u32,
-    hidden: &mut Vec<Vec<u8>>,
+    hidden: &mut Names,
     work: &mut u32,
     name: &Token,
     m: &Macro,
@@ -247,15 +247,12 @@ fn expand_call(
     limit: usize,
 ) -> Result<(), Pre>
     requires { length out.old.items ≤ limit }
-    ensures outcome { Expands limit (call_outcome (expanded levels macros.now) (texts hidden.old.items)
+    ensures outcome { Expands limit (call_outcome (expanded levels macros.now) hidden.old
         (plain_tokens out.old.items) (plain name.now) (plain_macro m.now) (parameters_of m.now.parameters)
-        (lists arguments.now.lists.items)) (plain_tokens out.new.items) result }
-    ensures hidden { OnOk result (texts hidden.new.items ≡ texts hidden.old.items) }
+        (slices arguments.now.lists.items)) (plain_tokens out.new.items) result }
+    ensures hidden { OnOk result (hidden.new ≡ hidden.old) }
     ensures within { length out.new.items ≤ limit }
 {
-    let Ok(()) = spend(work, arguments.count) else {
-        return Err(Pre::Memory);
-    };
     let lists = match expand_arguments(
         alloc,
         macros,
@@ -267,14 +264,11 @@ fn expand_call(
         Ok(lists) => lists,
         Err(e) => return Err(e),
     };
-    let parameters = parameters_of(m);
-    let Ok(list) = substituted(
-        alloc,
-        parameters,
-        lists.as_slice(),
-        name.line,
-        m.body.as_slice(),
-    ) else {
+    let body = m.body.as_slice();
+    let Ok(()) = spend_substituted(work, &m.parameters, lists.as_slice(), body) else {
+        return Err(Pre::Memory);
+    };
+    let Ok(list) = substituted(alloc, &m.parameters, lists.as_slice(), name.line, body) else {
         return Err(Pre::Memory);
     };
     rescan(

@@ -183,16 +183,18 @@ fn empty_calls(alloc: Global, calls: u32) -> Result<Vec<u8>, AllocError> {
 }
 
 #[test]
-fn answers_memory_for_the_work_of_20_000_000_tokens(rt: HostRuntime) -> Result<(), Fail> {
+fn answers_memory_past_the_bound_on_work(rt: HostRuntime) -> Result<(), Fail> {
     let alloc = rt.alloc();
-    let short = empty_calls(alloc, 20)?;
+    let short = empty_calls(alloc, 2)?;
     let long = empty_calls(alloc, 200)?;
+    let repeating = repeated(alloc, b"#define f(x)", b" x", 200, b"\nf(f(f(f(1))))")?;
     compare(
         &rt,
         alloc,
         &[
             (short.as_slice(), b"".as_slice()),
             (long.as_slice(), b"M".as_slice()),
+            (repeating.as_slice(), b"M".as_slice()),
         ],
     )
 }

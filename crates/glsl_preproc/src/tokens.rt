@@ -5,7 +5,7 @@ ghost use Rattle.glsl_preproc.specs.Macros.{is_text, is_name_token, class_number
 ghost use Rattle.glsl_preproc.specs.Replacement.{opens, closes, is_comma, at_line, line_number};
 ghost use Rattle.glsl_preproc.specs.Directives.{is_hash_token, is_int_class, is_params};
 ghost use Rattle.glsl_preproc.specs.Expansion.{is_line_end};
-ghost use Rattle.glsl_preproc.specs.Views.{placed, texts, lists};
+ghost use Rattle.glsl_preproc.specs.Views.{placed, lists};
 
 use glsl_tree::{Class, Token};
 use std::alloc::{AllocError, Global};
@@ -121,14 +121,6 @@ pub fn push_list(out: &mut Vec<Vec<Token>>, list: Vec<Token>) -> Result<(), Allo
     ensures { OnOk result (lists out.new.items ≡ lists out.old.items ++ plain_tokens list.items ∷ []) }
 {
     out.push(list)?;
-    Ok(())
-}
-
-/// Adds a copy of a name.
-pub fn push_name(alloc: Global, out: &mut Vec<Vec<u8>>, name: &[u8]) -> Result<(), AllocError>
-    ensures { OnOk result (texts out.new.items ≡ texts out.old.items ++ name.now ∷ []) }
-{
-    out.push(Vec::from_slice(alloc, name)?)?;
     Ok(())
 }
 

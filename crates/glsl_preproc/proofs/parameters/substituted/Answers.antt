@@ -2,7 +2,7 @@ use Rattle.std.proofs.Common.{◌++◌, drop, sym, ap, ◌∙◌, append_assoc}
 use Rattle.std.proofs.lemmas.List.{append-nil}
 use Rattle.glsl_tree.specs.Token.{plain, plain_tokens}
 use Rattle.glsl_preproc.specs.Replacement.{substituted, argument_of, argument_or, at_line}
-use Rattle.glsl_preproc.specs.Views.{texts, lists}
+use Rattle.glsl_preproc.specs.Views.{parameters_of, lists}
 use Rattle.glsl_preproc.proofs.Items.{some_items, none_left}
 use Rattle.glsl_preproc.proofs.Substitution.{substituted_first, substituted_none}
 use Rattle.glsl_preproc.proofs.parameters.substituted.Goals as goal
@@ -11,7 +11,7 @@ pub loop-rest-preserved : goal.loop-rest-preserved
 loop-rest-preserved c =
     let rest = c.loop-rest.rest.now in
     let some = some_items rest _ c.is_empty.ensures c.loop-rest-test.true in
-    let parameters = texts c.args.parameters.now in
+    let parameters = parameters_of c.args.parameters.now in
     let arguments = lists c.args.arguments.now in
     let line = c.args.line in
     let left = substituted parameters arguments line (plain_tokens (drop 1 rest)) in
@@ -26,5 +26,5 @@ loop-rest-preserved c =
 pub returns : goal.returns
 returns c =
     sym (append-nil (plain_tokens c.loop-rest.out.items))
-    ∙ ap (λ l. plain_tokens c.loop-rest.out.items ++ l) (sym (substituted_none (texts c.args.parameters.now) (lists c.args.arguments.now) c.args.line c.loop-rest.rest.now (none_left _ _ c.is_empty.ensures c.loop-rest-test.false)))
+    ∙ ap (λ l. plain_tokens c.loop-rest.out.items ++ l) (sym (substituted_none (parameters_of c.args.parameters.now) (lists c.args.arguments.now) c.args.line c.loop-rest.rest.now (none_left _ _ c.is_empty.ensures c.loop-rest-test.false)))
     ∙ c.loop-rest.invariant

@@ -1,5 +1,6 @@
 use Rattle.std.proofs.Common.{◌≡◌, ◌++◌, [], ◌∷◌, Some, None, cond, length, get_or, bytes_eq, ap, ◌∙◌, arith, rules}
-use Rattle.glsl_preproc.specs.MacroSlots.{live, is_named, place_of}
+use Rattle.glsl_preproc.specs.NamePlaces.{place_of}
+use Rattle.glsl_preproc.specs.MacroSlots.{live, is_named}
 use Rattle.glsl_preproc.specs.Views.{plain_macro}
 use Rattle.glsl_preproc.specs.Macros.{find_macro}
 use Rattle.glsl_preproc.proofs.Slots.{free, added, live_more, places_after}

@@ -3,7 +3,7 @@ use Rattle.std.specs.Option.{option_map}
 use Rattle.std.proofs.lemmas.List.{get_or_default}
 use Rattle.glsl_preproc.specs.Macros.{find_macro}
 use Rattle.glsl_preproc.specs.Views.{plain_macro}
-use Rattle.glsl_preproc.specs.MacroSlots.{place_of}
+use Rattle.glsl_preproc.specs.NamePlaces.{place_of}
 use Rattle.glsl_preproc.proofs.Slots.{copied, found_none, found_at, within_at}
 use Rattle.glsl_preproc.proofs.macro_table.MacroTable.find.Goals as goal
 

@@ -1,5 +1,5 @@
 use Rattle.std.proofs.Common.{None, not, filter, bytes_eq, sym, ap, ◌∙◌, arith, rules}
-use Rattle.glsl_preproc.specs.MacroSlots.{place_of}
+use Rattle.glsl_preproc.specs.NamePlaces.{place_of}
 use Rattle.glsl_preproc.proofs.Slots.{emptied, left_none, left_at, within_at, places_after}
 use Rattle.glsl_preproc.proofs.macro_table.MacroTable.remove.Goals as goal
 
