@@ -92,15 +92,22 @@ def show(root, sums):
     print(f"| all | | | | | {' | '.join(whole)} |")
 
 
+def gate_words():
+    """The gate's words: a kit that keeps results of earlier runs has a flag for a run from nothing, and others always begin there."""
+    told = subprocess.run(["rt", "help"], capture_output=True, text=True, check=False)
+    return ["rt", "ci", *(["--anew"] if "--anew" in told.stdout + told.stderr else [])]
+
+
 def main():
     log = open(sys.argv[1], "w") if len(sys.argv) > 1 else subprocess.DEVNULL
     with tempfile.TemporaryDirectory() as folder:
         root = pathlib.Path(folder) / "clone"
         subprocess.run(["git", "clone", "-q", str(TOP), str(root)], check=True)
         start = time.time()
-        gate = subprocess.Popen(["rt", "ci", "--anew"], cwd=root, stdout=log, stderr=subprocess.STDOUT)
+        words = gate_words()
+        gate = subprocess.Popen(words, cwd=root, stdout=log, stderr=subprocess.STDOUT)
         sums = watch(gate)
-        print(f"rt ci --anew: status {gate.returncode}, {(time.time() - start) / 60:.0f} minutes on {os.cpu_count()} processors\n")
+        print(f"{' '.join(words)}: status {gate.returncode}, {(time.time() - start) / 60:.0f} minutes on {os.cpu_count()} processors\n")
         show(root, sums)
 
 
