@@ -1,5 +1,5 @@
 -- The calls on vertex attributes (WebGL 1.0 section 5.14.10; OpenGL ES 2.0 sections 2.7, 2.8 and 6.1.8): a row each.
-use Rattle.std.specs.Prelude.{ℕ, ◌/◌, ◌%◌, ◌^◌, Bool, not, ◌==◌, Option, Some, None, is_some, unwrap_or, List, [], ◌∷◌, slice_get}
+use Rattle.std.specs.Prelude.{ℕ, ◌/◌, ◌%◌, ◌^◌, Bool, not, ◌==◌, Option, Some, is_some, unwrap_or, List, [], ◌∷◌, slice_get}
 use Rattle.std.specs.Option.{option_map_or}
 use Rattle.gl_numbers.specs.AttribWords.{attrib_parameter_of, attrib_pointer, attrib_type_word}
 use Rattle.gl_numbers.specs.Refusals.{Rule, when, invalid_enum}

@@ -1,5 +1,5 @@
 -- What getParameter returns (WebGL 1.0 section 5.14.3; OpenGL ES 2.0 section 6.2), by the part of the state that has it.
-use Rattle.std.specs.Prelude.{ℕ, ℤ, List, map, unwrap_or}
+use Rattle.std.specs.Prelude.{ℕ, ℤ, map, unwrap_or}
 use Rattle.std.specs.Int.{cast_unsigned, w32}
 use Rattle.gl_numbers.specs.BufferBindings.{binding}
 use Rattle.gl_numbers.specs.Parameters.{limit_value}
