@@ -1,0 +1,4 @@
+pub mod Answers
+pub mod Below
+pub mod Placing
+pub mod Sheets
