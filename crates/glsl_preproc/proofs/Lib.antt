@@ -9,6 +9,7 @@ pub mod TextDefinitions
 pub mod TextLines
 pub mod SourceText
 pub mod Items
+pub mod Digits
 pub mod Same
 pub mod Slots
 pub mod NamePlaces

@@ -4,10 +4,8 @@ use Rattle.std.specs.List.{list_any, slice_get}
 use Rattle.std.proofs.lemmas.Bool.{cond-true, cond-false}
 use Rattle.std.proofs.lemmas.List.{map_push}
 use Rattle.std.proofs.lemmas.Slice.Eq.{bytes_eq-Decides}
-use Rattle.std.proofs.lemmas.Option.{slice_get-map, slice_get_read, slice_get_past}
-use Rattle.glsl_tree.specs.Token.{PlainToken, plain_tokens}
-use Rattle.glsl_tree.specs.declared.token.Token.{Token}
-use Rattle.glsl_preproc.specs.Views.{lists}
+use Rattle.std.proofs.lemmas.Option.{slice_get_read, slice_get_past}
+use Rattle.glsl_tree.specs.Token.{PlainToken}
 use Rattle.glsl_preproc.specs.NamePlaces.{index_of, IsPlaced}
 use Rattle.glsl_preproc.specs.Replacement.{argument_of}
 
@@ -155,16 +153,12 @@ found [] arguments q = refl
 found (n ∷ names) [] q = empty_step (bytes_eq n q) (index_of names q)
 found (n ∷ names) (a ∷ arguments) q = first_step (bytes_eq n q) (index_of names q) a arguments (argument_of names arguments q) (found names arguments q)
 
-pub argument_at : (names : List (List ℕ)) (arguments : List (Vec Token Global)) (q : List ℕ) (i : ℕ) (a : Vec Token Global) → index_of names q ≡ Some i → i < length arguments → a ≡ get_or arguments i a
-    → argument_of names (lists arguments) q ≡ Some (plain_tokens a.items)
-argument_at names arguments q i a e h f =
-    found names (lists arguments) q ∙ ap (λ o. at_place o (lists arguments)) e ∙ slice_get-map (λ v. plain_tokens v.items) arguments i
-    ∙ ap (option_map (λ v. plain_tokens v.items)) (slice_get_read arguments (length arguments) i a refl h f)
+pub argument_at : (names : List (List ℕ)) (arguments : List (List PlainToken)) (q : List ℕ) (i : ℕ) (a : List PlainToken) → index_of names q ≡ Some i → i < length arguments → a ≡ get_or arguments i a
+    → argument_of names arguments q ≡ Some a
+argument_at names arguments q i a e h f = found names arguments q ∙ ap (λ o. at_place o arguments) e ∙ slice_get_read arguments (length arguments) i a refl h f
 
-pub argument_past : (names : List (List ℕ)) (arguments : List (Vec Token Global)) (q : List ℕ) (i : ℕ) → index_of names q ≡ Some i → length arguments ≤ i → argument_of names (lists arguments) q ≡ None
-argument_past names arguments q i e h =
-    found names (lists arguments) q ∙ ap (λ o. at_place o (lists arguments)) e ∙ slice_get-map (λ v. plain_tokens v.items) arguments i
-    ∙ ap (option_map (λ v. plain_tokens v.items)) (slice_get_past arguments i h)
+pub argument_past : (names : List (List ℕ)) (arguments : List (List PlainToken)) (q : List ℕ) (i : ℕ) → index_of names q ≡ Some i → length arguments ≤ i → argument_of names arguments q ≡ None
+argument_past names arguments q i e h = found names arguments q ∙ ap (λ o. at_place o arguments) e ∙ slice_get_past arguments i h
 
 pub argument_none : (names : List (List ℕ)) (arguments : List (List PlainToken)) (q : List ℕ) → index_of names q ≡ None → argument_of names arguments q ≡ None
 argument_none names arguments q e = found names arguments q ∙ ap (λ o. at_place o arguments) e

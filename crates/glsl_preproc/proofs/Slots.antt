@@ -96,9 +96,9 @@ module _ (slots : List (Option Macro)) (place : List ℕ → Option ℕ) (h : Is
   left_at name j e = sym (filter_at name slots j (here name (Some j) e))
 
   -- a macro of a free name in a new slot
-  pub added : (m : Macro) (after : List ℕ → Option ℕ) → place m.name.items ≡ None → ((q : List ℕ) → after q ≡ cond (bytes_eq m.name.items q) (Some (length slots)) (place q))
+  pub added : (m : Macro) (after : List ℕ → Option ℕ) → place m.name.now ≡ None → ((q : List ℕ) → after q ≡ cond (bytes_eq m.name.now q) (Some (length slots)) (place q))
       → IsIndexed (slots ++ Some m ∷ []) after
-  added m after e u i q = by_name (bytes_eq m.name.items q) refl ∙ ap (is_place i) (sym (u q))
+  added m after e u i q = by_name (bytes_eq m.name.now q) refl ∙ ap (is_place i) (sym (u q))
     where
       n : ℕ
       n = length slots
@@ -116,14 +116,14 @@ module _ (slots : List (Option Macro)) (place : List ℕ → Option ℕ) (h : Is
       none : place q ≡ None → is_named q (get_or slots i None) ≡ false
       none p = h i q ∙ ap (is_place i) p
 
-      by_place : (b : Bool) → bytes_eq m.name.items q ≡ b → ((eqb i n ≡ true) × (i ≡ n)) ⊎ ((eqb i n ≡ false) × (i ≢ n)) → is_named q (get_or more i None) ≡ is_place i (cond b (Some n) (place q))
+      by_place : (b : Bool) → bytes_eq m.name.now q ≡ b → ((eqb i n ≡ true) × (i ≡ n)) ⊎ ((eqb i n ≡ false) × (i ≢ n)) → is_named q (get_or more i None) ≡ is_place i (cond b (Some n) (place q))
       by_place true t (inl s) = ap (λ k. is_named q (get_or more k None)) s.1 ∙ ap (is_named q) (get_or-append_seam slots (Some m) [] None) ∙ t ∙ sym s.0
-      by_place true t (inr s) = ap (is_named q) (old s.1) ∙ none (ap place (sym ((bytes_eq-Decides m.name.items q).0 t)) ∙ e) ∙ sym s.0
+      by_place true t (inr s) = ap (is_named q) (old s.1) ∙ none (ap place (sym ((bytes_eq-Decides m.name.now q).0 t)) ∙ e) ∙ sym s.0
       by_place false t (inl s) = ap (λ k. is_named q (get_or more k None)) s.1 ∙ ap (is_named q) (get_or-append_seam slots (Some m) [] None) ∙ t
           ∙ ap (is_named q) (sym (get_or_past slots i None (le_of_eq (sym s.1)))) ∙ h i q
       by_place false t (inr s) = ap (is_named q) (old s.1) ∙ h i q
 
-      by_name : (b : Bool) → bytes_eq m.name.items q ≡ b → is_named q (get_or more i None) ≡ is_place i (cond (bytes_eq m.name.items q) (Some n) (place q))
+      by_name : (b : Bool) → bytes_eq m.name.now q ≡ b → is_named q (get_or more i None) ≡ is_place i (cond (bytes_eq m.name.now q) (Some n) (place q))
       by_name b t = by_place b t (eqb_tells i n) ∙ ap (λ x. is_place i (cond x (Some n) (place q))) (sym t)
 
   -- a slot that was emptied
@@ -133,7 +133,7 @@ module _ (slots : List (Option Macro)) (place : List ℕ → Option ℕ) (h : Is
     where
       by_slot : (s : Option Macro) → is_named name s ≡ true → bytes_eq name q ≡ false → is_named q s ≡ false
       by_slot None n t = refl
-      by_slot (Some m) n t = ap (λ x. bytes_eq x q) ((bytes_eq-Decides m.name.items name).0 n) ∙ t
+      by_slot (Some m) n t = ap (λ x. bytes_eq x q) ((bytes_eq-Decides m.name.now name).0 n) ∙ t
 
       by_place : (b : Bool) → bytes_eq name q ≡ b → ((eqb i j ≡ true) × (i ≡ j)) ⊎ ((eqb i j ≡ false) × (i ≢ j)) → is_named q (get_or (set slots j None) i None) ≡ is_place i (cond (bytes_eq name q) None (place q))
       by_place b t (inl s) = ap (λ k. is_named q (get_or (set slots j None) k None)) s.1 ∙ ap (is_named q) (get_or-set_same slots j None None (within_at name j e)) ∙ sym (left b t)

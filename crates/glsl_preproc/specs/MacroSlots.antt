@@ -14,7 +14,7 @@ live slots = filter_map (option_map plain_macro) slots
 -- whether the slot has the macro of the name
 abbrev pub is_named : List ℕ → Option Macro → Bool
 is_named name None = false
-is_named name (Some m) = bytes_eq m.name.items name
+is_named name (Some m) = bytes_eq m.name.now name
 
 -- whether this is the place
 abbrev pub is_place : ℕ → Option ℕ → Bool

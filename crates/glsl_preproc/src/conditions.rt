@@ -4,18 +4,16 @@ ghost use Rattle.glsl_preproc.specs.Values.{operator_of};
 ghost use Rattle.glsl_preproc.specs.Conditions.{primary_of, in_brackets, behind_sign, at_level, expression_at, operand_within, condition, judged};
 ghost use Rattle.glsl_preproc.specs.ConditionViews.{signed, sign_of, parsed_of, IsParsedWithin, judged_of, IsJudged};
 
+use crate::budget::Budget;
 use crate::defined::answered;
 use crate::errors::Pre;
+use crate::expander::expanded;
 use crate::macro_table::MacroTable;
-use crate::names::Names;
 use crate::numbers::int_value;
 use crate::operators::Operator;
-use crate::replacement::expand_list;
 use crate::tokens::{closes, is_text, opens};
 use crate::values::{applied, complemented, inverted, level_of, negated, operator_of};
-use crate::work::WORK;
 use glsl_tree::{Class, Token};
-use std::alloc::Global;
 
 /// What is read at the front of a list.
 #[derive(Clone, Copy, Debug)]
@@ -209,34 +207,22 @@ fn verdict_of(list: &[Token], parsed: Parsed) -> Judged
 
 /// What an `#if` with this list answers, where macro calls, brackets and signs nest in at most so many levels.
 #[tactic(auto, unfolding(crate::specs::Conditions::condition))]
-pub fn condition(
-    alloc: Global,
-    macros: &MacroTable,
+pub fn condition<'s>(
+    budget: &mut Budget,
+    macros: &MacroTable<'s>,
     levels: u32,
-    work: &mut u32,
-    list: &[Token],
+    list: &'s [Token],
 ) -> Judged
     ensures { IsJudged (condition levels macros.now (plain_tokens list.now)) result }
 {
-    let Ok(found) = answered(alloc, macros, list) else {
+    let Ok(found) = answered(budget.alloc, macros, list) else {
         return Judged::Unknown;
     };
     let Some(resolved) = found else {
         return Judged::Fails;
     };
-    let mut hidden = Names::new(alloc);
-    let mut tokens = Vec::new(alloc);
-    match expand_list(
-        alloc,
-        macros,
-        levels,
-        &mut hidden,
-        work,
-        resolved.as_slice(),
-        &mut tokens,
-        WORK as usize,
-    ) {
-        Ok(()) => verdict_of(tokens.as_slice(), expression(levels, 10, tokens.as_slice())),
+    match expanded(budget, macros, levels, resolved.as_slice()) {
+        Ok(tokens) => verdict_of(tokens.as_slice(), expression(levels, 10, tokens.as_slice())),
         Err(Pre::Directive(_)) => Judged::Fails,
         Err(_) => Judged::Unknown,
     }

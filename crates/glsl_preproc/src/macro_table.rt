@@ -1,4 +1,4 @@
-ghost use Rattle.std.specs.Prelude.{◌≡◌, [], ◌∷◌, IfOk, OnOk, None, not, ◌++◌};
+ghost use Rattle.std.specs.Prelude.{◌≡◌, [], ◌∷◌, IfOk, OnOk, None, not, ◌++◌, codes};
 ghost use Rattle.std.specs.List.{filter};
 ghost use Rattle.std.specs.Option.{option_map};
 ghost use Rattle.std.specs.Str.{bytes_eq};
@@ -13,18 +13,19 @@ use glsl_tree::Token;
 use std::alloc::{AllocError, Global};
 use std::collections::BTreeMap;
 use std::marker::Model;
+use std::slice::from_ref;
 
 /// The macros that are defined, in the order in which they were, and found by their names. A look-up, a new macro and one
 /// that is taken away take steps by the logarithm of the count of macros, and not by the count.
 #[derive(Drop)]
-pub struct MacroTable {
+pub struct MacroTable<'s> {
     /// The macros. Where one was taken away, its place stays empty, so that the others keep theirs.
-    slots: Vec<Option<Macro>>,
+    slots: Vec<Option<Macro<'s>>>,
     /// The place of each macro that is defined, by name.
     places: BTreeMap<Vec<u8>, usize>,
 }
 
-impl Model for MacroTable {
+impl<'s> Model for MacroTable<'s> {
     ghost use Rattle.std.specs.Prelude.{List};
     ghost use Rattle.glsl_preproc.specs.Macros.{PlainMacro};
     ghost use Rattle.glsl_preproc.specs.NamePlaces.{place_of};
@@ -38,7 +39,7 @@ impl Model for MacroTable {
 }
 
 #[tactic(auto)]
-impl MacroTable {
+impl<'s> MacroTable<'s> {
     /// No macro at all.
     pub fn new(alloc: Global) -> Self
         ensures { result ≡ [] }
@@ -50,7 +51,7 @@ impl MacroTable {
     }
 
     /// The macro of a name.
-    pub fn find(&self, name: &[u8]) -> Option<&Macro>
+    pub fn find(&self, name: &[u8]) -> Option<&Macro<'s>>
         ensures { option_map (λ m. plain_macro m.now) result ≡ find_macro self.now name.now }
     {
         match self.places.get(name) {
@@ -67,11 +68,11 @@ impl MacroTable {
     }
 
     /// Adds a macro of a name that none has.
-    pub fn add(&mut self, alloc: Global, m: Macro) -> Result<(), AllocError>
-        requires { find_macro self.old m.name.items ≡ None }
-        ensures { OnOk result (self.new ≡ self.old ++ plain_macro m ∷ []) }
+    pub fn add(&mut self, alloc: Global, m: Macro<'s>) -> Result<(), AllocError>
+        requires { find_macro self.old m.name.now ≡ None }
+        ensures { OnOk result (self.new ≡ self.old ++ plain_macro m.entry ∷ []) }
     {
-        let name = Vec::from_slice(alloc, m.name.as_slice())?;
+        let name = Vec::from_slice(alloc, m.name)?;
         let place = self.slots.len();
         self.slots.push(Some(m))?;
         match self.places.insert(name, place) {
@@ -183,42 +184,71 @@ fn same_parameters(a: &Option<Names>, b: &Option<Names>) -> bool
 pub fn same_macro(a: &Macro, b: &Macro) -> bool
     ensures { result ≡ same_macro (plain_macro a.now) (plain_macro b.now) }
 {
-    same_parameters(&a.parameters, &b.parameters) && same_body(a.body.as_slice(), b.body.as_slice())
+    same_parameters(&a.parameters, &b.parameters) && same_body(a.body, b.body)
 }
 
-/// A macro without parameters whose replacement is one number, or nothing.
-fn constant_macro(alloc: Global, name: &[u8], number: &[u8]) -> Result<Macro, AllocError>
-    ensures { IfOk result (λ m. plain_macro m ≡ constant_macro name.now (number_token number.now ∷ [])) }
+/// A macro without parameters whose replacement is one number.
+fn constant_macro<'s>(name: &'s [u8], number: &'s Token) -> Macro<'s>
+    ensures { plain_macro result ≡ constant_macro name.now (plain number.now ∷ []) }
 {
-    let name = Vec::from_slice(alloc, name)?;
-    let mut body = Vec::new(alloc);
-    body.push(number_token(alloc, number)?)?;
-    Ok(Macro {
+    Macro {
         name,
         parameters: None,
-        body,
-    })
+        body: from_ref(number),
+    }
+}
+
+/// The numbers that macros stand for before the first directive.
+#[derive(Drop)]
+pub struct Numbers {
+    /// Of `__FILE__`.
+    pub zero: Token,
+    /// Of `GL_ES` and `GL_FRAGMENT_PRECISION_HIGH`.
+    pub one: Token,
+    /// Of `__VERSION__`.
+    pub version: Token,
+}
+
+impl Numbers {
+    ghost use Rattle.std.specs.Prelude.{◌≡◌, IfOk, codes};
+    ghost use Rattle.glsl_tree.specs.Token.{plain};
+    ghost use Rattle.glsl_preproc.specs.Macros.{number_token};
+
+    /// The numbers, as tokens.
+    pub fn new(alloc: Global) -> Result<Self, AllocError>
+        ensures zero { IfOk result (λ n. plain n.zero ≡ number_token (codes "0")) }
+        ensures one { IfOk result (λ n. plain n.one ≡ number_token (codes "1")) }
+        ensures version { IfOk result (λ n. plain n.version ≡ number_token (codes "100")) }
+    {
+        Ok(Numbers {
+            zero: number_token(alloc, b"0")?,
+            one: number_token(alloc, b"1")?,
+            version: number_token(alloc, b"100")?,
+        })
+    }
 }
 
 /// The macros before the first directive.
 #[tactic(auto, unfolding(crate::specs::Macros::first_macros))]
-pub fn first_macros(alloc: Global) -> Result<MacroTable, AllocError>
+pub fn first_macros<'s>(alloc: Global, numbers: &'s Numbers) -> Result<MacroTable<'s>, AllocError>
+    requires zero { plain numbers.now.zero ≡ number_token (codes "0") }
+    requires one { plain numbers.now.one ≡ number_token (codes "1") }
+    requires version { plain numbers.now.version ≡ number_token (codes "100") }
     ensures { IfOk result (λ macros. macros ≡ first_macros) }
 {
     let mut macros = MacroTable::new(alloc);
-    let name = Vec::from_slice(alloc, b"__LINE__")?;
     let line = Macro {
-        name,
+        name: b"__LINE__",
         parameters: None,
-        body: Vec::new(alloc),
+        body: &[],
     };
     macros.add(alloc, line)?;
-    macros.add(alloc, constant_macro(alloc, b"__FILE__", b"0")?)?;
-    macros.add(alloc, constant_macro(alloc, b"__VERSION__", b"100")?)?;
-    macros.add(alloc, constant_macro(alloc, b"GL_ES", b"1")?)?;
+    macros.add(alloc, constant_macro(b"__FILE__", &numbers.zero))?;
+    macros.add(alloc, constant_macro(b"__VERSION__", &numbers.version))?;
+    macros.add(alloc, constant_macro(b"GL_ES", &numbers.one))?;
     macros.add(
         alloc,
-        constant_macro(alloc, b"GL_FRAGMENT_PRECISION_HIGH", b"1")?,
+        constant_macro(b"GL_FRAGMENT_PRECISION_HIGH", &numbers.one),
     )?;
     Ok(macros)
 }

@@ -14,8 +14,8 @@ invariant_of-self c =
     emptied c.self.inside.slots.items (place_of c.self.inside.places) c.self.invariant c.args.name.now c.in-Some.place (place_of c.remove.new.self) (sym c.in-Some.ensures.value)
     (places_after c.args.name.now c.self.inside.places c.remove.new.self None c.in-Some.ensures.updates)
 
-pub invariant_of-self-in-Some-2 : goal.invariant_of-self-in-Some-2
-invariant_of-self-in-Some-2 c =
+pub invariant_of-self-in-Some-3 : goal.invariant_of-self-in-Some-3
+invariant_of-self-in-Some-3 c =
     emptied c.self.inside.slots.items (place_of c.self.inside.places) c.self.invariant c.args.name.now c.in-Some.place (place_of c.remove.new.self) (sym c.in-Some.ensures.value)
     (places_after c.args.name.now c.self.inside.places c.remove.new.self None c.in-Some.ensures.updates)
 
@@ -29,3 +29,8 @@ pub returns-in_default : goal.returns-in_default
 returns-in_default c =
     left_none c.self.inside.slots.items (place_of c.self.inside.places) c.self.invariant c.args.name.now (sym c.remove.ensures.value ∙ c.in_default.is)
     ∙ ap (filter (λ m. not (bytes_eq m.name c.args.name.now))) c.self.view_is
+
+pub invariant_of-self-in-Some-2 : goal.invariant_of-self-in-Some-2
+invariant_of-self-in-Some-2 c =
+    emptied c.self.inside.slots.items (place_of c.self.inside.places) c.self.invariant c.args.name.now c.in-Some.place (place_of c.remove.new.self) (sym c.in-Some.ensures.value)
+    (places_after c.args.name.now c.self.inside.places c.remove.new.self None c.in-Some.ensures.updates)
