@@ -11,7 +11,7 @@ pub mod SourceText
 pub mod Items
 pub mod Digits
 pub mod Same
-pub mod Slots
+pub mod Entries
 pub mod NamePlaces
 pub mod Fitting
 pub mod ArgumentLists

@@ -45,6 +45,9 @@ texts names = map (λ v. v.items) names
 abbrev pub plain_macro : Macro → PlainMacro
 plain_macro m = record { name = m.name.now; parameters = m.parameters; body = plain_tokens m.body.now }
 
+abbrev pub plain_entry : Vec ℕ Global × Macro → List ℕ × PlainMacro
+plain_entry e = (e.0.items, plain_macro e.1)
+
 -- each list of tokens, which stands in another
 abbrev pub slices : List (Bor (List Piece)) → List (List PlainToken)
 slices arguments = map (λ s. plain_pieces s.now) arguments

@@ -200,7 +200,7 @@ pub fn define<'s>(
     };
     match standing_of(macros, &m) {
         Standing::New => {
-            macros.add(alloc, m)?;
+            macros.define(alloc, m)?;
             Ok(true)
         }
         Standing::Same => Ok(true),

@@ -1,9 +1,8 @@
 ghost use Rattle.std.specs.Prelude.{◌≡◌, [], ◌∷◌, IfOk, OnOk, None, not, ◌++◌, codes};
-ghost use Rattle.std.specs.List.{filter};
 ghost use Rattle.std.specs.Option.{option_map};
 ghost use Rattle.std.specs.Str.{bytes_eq};
 ghost use Rattle.glsl_tree.specs.Token.{plain, plain_tokens};
-ghost use Rattle.glsl_preproc.specs.Macros.{find_macro, is_defined, has_double_underscore, begins_with_gl, is_reserved, same_token, same_body, same_names, same_parameters, same_macro, first_macros, constant_macro, number_token};
+ghost use Rattle.glsl_preproc.specs.Macros.{find_macro, with_macro, without_macro, is_defined, has_double_underscore, begins_with_gl, is_reserved, same_token, same_body, same_names, same_parameters, same_macro, first_macros, constant_macro, number_token};
 ghost use Rattle.glsl_preproc.specs.Views.{plain_macro, texts};
 
 use crate::macros::Macro;
@@ -15,27 +14,22 @@ use std::collections::BTreeMap;
 use std::marker::Model;
 use std::slice::from_ref;
 
-/// The macros that are defined, in the order in which they were, and found by their names. A look-up, a new macro and one
-/// that is taken away take steps by the logarithm of the count of macros, and not by the count.
+/// The macros that are defined, by their names. A look-up, a new macro and one that is taken away take steps by the
+/// logarithm of the count of macros.
 #[derive(Drop)]
 pub struct MacroTable<'s> {
-    /// The macros. Where one was taken away, its place stays empty, so that the others keep theirs.
-    slots: Vec<Option<Macro<'s>>>,
-    /// The place of each macro that is defined, by name.
-    places: BTreeMap<Vec<u8>, usize>,
+    /// The macros.
+    macros: BTreeMap<Vec<u8>, Macro<'s>>,
 }
 
 impl<'s> Model for MacroTable<'s> {
-    ghost use Rattle.std.specs.Prelude.{List};
-    ghost use Rattle.glsl_preproc.specs.Macros.{PlainMacro};
-    ghost use Rattle.glsl_preproc.specs.NamePlaces.{place_of};
-    ghost use Rattle.glsl_preproc.specs.MacroSlots.{live, IsIndexed};
+    ghost use Rattle.std.specs.Prelude.{map};
+    ghost use Rattle.glsl_preproc.specs.Macros.{MacroMap};
+    ghost use Rattle.glsl_preproc.specs.Views.{plain_entry};
 
-    ghost Value = { List PlainMacro };
+    ghost Value = { MacroMap };
 
-    ghost view = { λ t. live t.slots.items };
-
-    ghost invariant = { λ t. IsIndexed t.slots.items (place_of t.places) };
+    ghost view = { λ t. map plain_entry t.macros.entries };
 }
 
 #[tactic(auto)]
@@ -45,8 +39,7 @@ impl<'s> MacroTable<'s> {
         ensures { result ≡ [] }
     {
         MacroTable {
-            slots: Vec::new(alloc),
-            places: BTreeMap::new(alloc),
+            macros: BTreeMap::new(alloc),
         }
     }
 
@@ -54,10 +47,7 @@ impl<'s> MacroTable<'s> {
     pub fn find(&self, name: &[u8]) -> Option<&Macro<'s>>
         ensures { option_map (λ m. plain_macro m.now) result ≡ find_macro self.now name.now }
     {
-        match self.places.get(name) {
-            None => None,
-            Some(place) => self.slots[*place].as_ref(),
-        }
+        self.macros.get(name)
     }
 
     /// Whether a macro has the name.
@@ -67,30 +57,22 @@ impl<'s> MacroTable<'s> {
         self.find(name).is_some()
     }
 
-    /// Adds a macro of a name that none has.
-    pub fn add(&mut self, alloc: Global, m: Macro<'s>) -> Result<(), AllocError>
-        requires { find_macro self.old m.name.now ≡ None }
-        ensures { OnOk result (self.new ≡ self.old ++ plain_macro m.entry ∷ []) }
+    /// Defines a macro, in the place of one of the same name.
+    pub fn define(&mut self, alloc: Global, m: Macro<'s>) -> Result<(), AllocError>
+        ensures { OnOk result (self.new ≡ with_macro self.old (plain_macro m.entry)) }
     {
         let name = Vec::from_slice(alloc, m.name)?;
-        let place = self.slots.len();
-        self.slots.push(Some(m))?;
-        match self.places.insert(name, place) {
-            Ok(_) => Ok(()),
-            Err(_) => {
-                let _ = self.slots.pop();
-                Err(AllocError)
-            }
-        }
+        let Ok(_old) = self.macros.insert(name, m) else {
+            return Err(AllocError);
+        };
+        Ok(())
     }
 
     /// Takes away the macro of a name, if there is one.
     pub fn remove(&mut self, name: &[u8])
-        ensures { self.new ≡ filter (λ m. not (bytes_eq m.name name.now)) self.old }
+        ensures { self.new ≡ without_macro self.old name.now }
     {
-        if let Some(place) = self.places.remove(name) {
-            self.slots[place] = None;
-        }
+        let _ = self.macros.remove(name);
     }
 }
 
@@ -242,11 +224,11 @@ pub fn first_macros<'s>(alloc: Global, numbers: &'s Numbers) -> Result<MacroTabl
         parameters: None,
         body: &[],
     };
-    macros.add(alloc, line)?;
-    macros.add(alloc, constant_macro(b"__FILE__", &numbers.zero))?;
-    macros.add(alloc, constant_macro(b"__VERSION__", &numbers.version))?;
-    macros.add(alloc, constant_macro(b"GL_ES", &numbers.one))?;
-    macros.add(
+    macros.define(alloc, line)?;
+    macros.define(alloc, constant_macro(b"__FILE__", &numbers.zero))?;
+    macros.define(alloc, constant_macro(b"__VERSION__", &numbers.version))?;
+    macros.define(alloc, constant_macro(b"GL_ES", &numbers.one))?;
+    macros.define(
         alloc,
         constant_macro(b"GL_FRAGMENT_PRECISION_HIGH", &numbers.one),
     )?;
