@@ -1,6 +1,6 @@
 use Rattle.std.proofs.Common.{◌≡◌, ◌<◌, ◌+◌, ◌++◌, [], ◌∷◌, length, take, drop, refl, sym, ap, ◌∙◌, arith, Some}
 use Rattle.glsl_preproc.specs.Replacement.{arguments_from}
-use Rattle.glsl_preproc.specs.Views.{plain_piece, plain_pieces, slices}
+use Rattle.glsl_preproc.specs.Views.{plain_pieces, slices}
 use Rattle.glsl_preproc.proofs.ArgumentLists.{args_open, args_end, args_part, args_other, args_none, depth_zero, longer, begun}
 use Rattle.glsl_preproc.proofs.calls.arguments_at.Goals as goal
 

@@ -1,4 +1,4 @@
-use Rattle.std.proofs.Common.{◌≡◌, ◌≤◌, length, sym, ap, ◌∙◌, arith}
+use Rattle.std.proofs.Common.{sym, ap, ◌∙◌, arith}
 use Rattle.glsl_preproc.specs.Replacement.{argument_of}
 use Rattle.glsl_preproc.specs.Views.{parameters_of}
 use Rattle.glsl_preproc.proofs.NamePlaces.{argument_at, argument_past, argument_none}

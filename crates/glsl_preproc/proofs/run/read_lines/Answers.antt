@@ -1,7 +1,7 @@
-use Rattle.std.proofs.Common.{◌≡◌, ◌<◌, ◌≤◌, ◌-◌, ◌+◌, List, [], Err, length, take, drop, sym, ap, subst, ◌∙◌, arith}
+use Rattle.std.proofs.Common.{◌≡◌, ◌<◌, ◌-◌, ◌+◌, List, [], Err, length, take, drop, sym, ap, subst, ◌∙◌, arith}
 use Rattle.glsl_tree.specs.Token.{plain_tokens}
 use Rattle.glsl_preproc.specs.Replacement.{Outcome}
-use Rattle.glsl_preproc.specs.Expansion.{lines_from, line_of, finished}
+use Rattle.glsl_preproc.specs.Expansion.{lines_from, line_of}
 use Rattle.glsl_tree.specs.declared.token.Token.{Token}
 use Rattle.glsl_preproc.specs.ReaderViews.{state_of, Steps, Finishes}
 use Rattle.glsl_preproc.proofs.Items.{some_items, none_left}

@@ -1,4 +1,4 @@
-use Rattle.std.proofs.Common.{◌≡◌, ◌<◌, ◌≤◌, ◌+◌, ◌-◌, ◌++◌, List, [], ◌∷◌, Result, Err, length, drop, refl, sym, ap, subst, ◌∙◌, arith}
+use Rattle.std.proofs.Common.{◌≡◌, ◌<◌, ◌+◌, ◌-◌, ◌++◌, List, [], ◌∷◌, Result, Err, length, drop, refl, sym, ap, subst, ◌∙◌, arith}
 use Rattle.glsl_tree.specs.Token.{PlainToken}
 use Rattle.glsl_preproc.specs.Replacement.{Outcome, End, Kept, LineNumber, Object, Call, WrongCount, use_of, line_number, list_from, expanded, object_outcome, call_outcome, expanded_arguments}
 use Rattle.glsl_preproc.specs.LoneClosers.{AreCounts}

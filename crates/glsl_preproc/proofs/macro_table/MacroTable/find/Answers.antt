@@ -1,4 +1,4 @@
-use Rattle.std.proofs.Common.{sym, ap, ◌∙◌, option_map}
+use Rattle.std.proofs.Common.{ap, ◌∙◌, option_map}
 use Rattle.glsl_preproc.specs.Macros.{find_macro}
 use Rattle.glsl_preproc.specs.Views.{plain_macro}
 use Rattle.glsl_preproc.proofs.Entries.{copied, found_macro}

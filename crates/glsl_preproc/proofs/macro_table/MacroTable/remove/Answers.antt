@@ -1,4 +1,4 @@
-use Rattle.std.proofs.Common.{map, sym, ap, ◌∙◌, rules}
+use Rattle.std.proofs.Common.{map, ap, ◌∙◌}
 use Rattle.glsl_preproc.specs.Macros.{without_macro}
 use Rattle.glsl_preproc.specs.Views.{plain_entry}
 use Rattle.glsl_preproc.proofs.Entries.{removed}
