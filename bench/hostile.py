@@ -4,6 +4,7 @@
 It makes each source of the table below in a folder of its own, copies the crates of the shading language there, proves and
 builds the small program below over them, and runs that on each source, with the memory of the process limited. It prints how
 the expansion ended, the processor time and the most memory of each. The time of reading and lexing the source is in it.
+At the end it prints how long lexing and expanding an ordinary shader of 256 KiB take each, from many runs in one process.
 Where the top folder of another checkout is given, its crates are built and run too, and its figures stand beside these.
 
 usage: bench/hostile.py [OTHER]      (about a minute where the crates were proved on this machine, and minutes where not)
@@ -25,10 +26,11 @@ LONGEST = 262_144
 MOST_MEMORY = 8 << 30
 MOST_SECONDS = 600
 STACK = 64 << 20
+TIMES = 41
 ENDS = {"0": "whole", "1": "fails", "2": "too long", "3": "memory", "4": "no source", "5": "no tokens"}
 
-PROGRAM = r'''//! Reads the source that its one word names, lexes and expands it, and prints how that ended. `bench/hostile.py` builds and
-//! times it.
+PROGRAM = r'''//! Lexes or expands the source of a file so many times, and prints how that ended. Its words are `lex` or `expand`, how many
+//! times, and the file. `bench/hostile.py` builds and times it.
 #![tactic(auto)]
 
 use glsl_lex::lex;
@@ -38,39 +40,81 @@ use std::fs;
 use std::process::ExitCode;
 use std::rt::{Env, Files};
 
-/// The text of the file that the last word names.
-fn read_source<R: Env + Files + AllocGlobal>(rt: &R) -> Option<String> {
+/// What the words ask for.
+#[derive(Drop)]
+struct Task {
+    is_lex: bool,
+    times: u32,
+    source: String,
+}
+
+/// The task of the words, and the text of its file.
+fn read_task<R: Env + Files + AllocGlobal>(rt: &R) -> Option<Task> {
     let Ok(words) = std::env::args(rt) else {
         return None;
     };
     let Ok(words): Result<Vec<String>, _> = words.skip(1).collect(rt.alloc()) else {
         return None;
     };
-    let path = words.last()?;
-    fs::read_to_string(rt, path.as_str()).ok()
+    let [what, times, path] = words.as_slice() else {
+        return None;
+    };
+    let Ok(times): Result<u32, _> = times.as_str().parse() else {
+        return None;
+    };
+    let source = fs::read_to_string(rt, path.as_str()).ok()?;
+    Some(Task {
+        is_lex: what.as_str() == "lex",
+        times,
+        source,
+    })
 }
 
-/// How the expansion ended, as a number of the script's table, and its count of tokens or its line.
-fn ended(alloc: Global, source: &[u8]) -> (u8, usize) {
+/// How lexing ended, as a number of the script's table, and the count of tokens.
+fn lexed(alloc: Global, source: &[u8], times: u32) -> (u8, usize) {
+    let mut count = 0;
     if source.len() > 262_144 {
         return (4, 0);
+    }
+    for _ in 0..times {
+        let Ok(tokens) = lex(alloc, source) else {
+            return (5, 0);
+        };
+        count = tokens.len();
+    }
+    (0, count)
+}
+
+/// How the expansion ended, and its count of tokens or its line.
+fn expanded(alloc: Global, source: &[u8], times: u32) -> (u8, usize) {
+    let mut end = (4, 0);
+    if source.len() > 262_144 {
+        return end;
     }
     let Ok(tokens) = lex(alloc, source) else {
         return (5, 0);
     };
-    match expand(alloc, tokens.as_slice()) {
-        Ok(expanded) => (0, expanded.len()),
-        Err(Pre::Directive(line)) => (1, line as usize),
-        Err(Pre::TooLong) => (2, 0),
-        Err(Pre::Memory) => (3, 0),
+    for _ in 0..times {
+        end = match expand(alloc, tokens.as_slice()) {
+            Ok(expanded) => (0, expanded.len()),
+            Err(Pre::Directive(line)) => (1, line as usize),
+            Err(Pre::TooLong) => (2, 0),
+            Err(Pre::Memory) => (3, 0),
+        };
     }
+    end
 }
 
 fn main(rt: HostRuntime) -> ExitCode {
-    let Some(source) = read_source(&rt) else {
+    let Some(task) = read_task(&rt) else {
         return ExitCode::from(2);
     };
-    let (end, number) = ended(rt.alloc(), source.as_bytes());
+    let source = task.source.as_bytes();
+    let (end, number) = if task.is_lex {
+        lexed(rt.alloc(), source, task.times)
+    } else {
+        expanded(rt.alloc(), source, task.times)
+    };
     match println!(rt; "{end} {number}") {
         Ok(()) => ExitCode::from(0),
         Err(_) => ExitCode::from(2),
@@ -124,6 +168,22 @@ def nesting_brackets(count):
     return "#if " + "(" * count + "1" + ")" * count + "\na\n#endif\n"
 
 
+def ordinary():
+    """A shader of nearly 256 KiB with uniforms, functions, comments, macros and conditionals, as one is written by hand."""
+    text = "#ifdef GL_ES\nprecision mediump float;\n#endif\n#define SATURATE(x) clamp(x, 0.0, 1.0)\n#define LIGHTS 4\n"
+    for n in itertools.count():
+        piece = (
+            f"// Light number {n}, with its own colour.\nuniform vec3 u_color{n};\nuniform vec3 u_position{n};\n"
+            f"vec3 shade{n}(vec3 normal, vec3 point) {{\n    vec3 light = normalize(u_position{n} - point);\n"
+            "    float diffuse = SATURATE(dot(normal, light));\n    for (int i = 0; i < LIGHTS; i++) {\n"
+            f"#if LIGHTS > 2 && defined(GL_ES)\n        diffuse += float(i) * 0.125;\n#endif\n    }}\n"
+            f"    return diffuse * u_color{n} + vec3(0.05, 0.05, 0.1);\n}}\n"
+        )
+        if len(text) + len(piece) > LONGEST:
+            return text
+        text += piece
+
+
 # The longest name that is a token.
 LONG_NAME = "n" * 256
 
@@ -175,7 +235,7 @@ def build(top, folder):
     )
     shutil.copy(top / "HANDLES", folder / "HANDLES")
     (folder / "short").write_text("a")
-    built = subprocess.run(["rt", "run", "hostile", "--", str(folder / "short")], cwd=folder / "crates" / "hostile", capture_output=True, text=True)
+    built = subprocess.run(["rt", "run", "hostile", "--", "expand", "1", str(folder / "short")], cwd=folder / "crates" / "hostile", capture_output=True, text=True)
     if built.returncode != 0:
         sys.exit(f"bench/hostile.py: the program was not built:\n{built.stdout}{built.stderr}")
     return folder / "crates" / "hostile" / "out" / "hostile"
@@ -187,9 +247,9 @@ def limit():
     resource.setrlimit(resource.RLIMIT_STACK, (STACK, STACK))
 
 
-def run(program, path):
+def run(program, path, what="expand", times=1):
     """How a source ended, the processor seconds, and the most memory in MiB."""
-    process = subprocess.Popen([program, str(path)], stdout=subprocess.PIPE, preexec_fn=limit)
+    process = subprocess.Popen([program, what, str(times), str(path)], stdout=subprocess.PIPE, preexec_fn=limit)
     words = process.stdout.read().decode().split()
     _, status, used = os.wait4(process.pid, 0)
     end = f"status {status}" if status else ENDS[words[0]] + (f" {words[1]}" if words[0] in "01" else "")
@@ -209,6 +269,10 @@ def main():
             path.write_text(source)
             figures = "".join(f"  {end:15} {seconds:8.2f} s {memory:7.0f} MiB" for end, seconds, memory in (run(program, path) for program in programs))
             print(f"{name:38} {len(source):7} bytes{'' if len(source) <= LONGEST else ' (too many)'}{figures}", flush=True)
+        path.write_text(ordinary())
+        for program in programs:
+            each = {what: min(run(program, path, what, TIMES)[1] - run(program, path, what, 1)[1] for _ in range(3)) / (TIMES - 1) for what in ("lex", "expand")}
+            print(f"an ordinary shader of {len(ordinary())} bytes: lex {1000 * each['lex']:.1f} ms, expand {1000 * each['expand']:.1f} ms", flush=True)
 
 
 if __name__ == "__main__":

@@ -5,7 +5,7 @@ use Rattle.std.specs.List.{list_any}
 use Rattle.std.specs.Str.{bytes_eq}
 use Rattle.glsl_tree.specs.Token.{PlainToken, plain, plain_tokens}
 use Rattle.glsl_tree.specs.declared.token.Token.{Token}
-use Rattle.glsl_preproc.specs.Macros.{PlainMacro, same_macro, is_name_token}
+use Rattle.glsl_preproc.specs.Macros.{MacroMap, PlainMacro, same_macro, is_name_token, with_macro}
 use Rattle.glsl_preproc.specs.Replacement.{closes, is_comma}
 use Rattle.glsl_preproc.specs.Directives.{defined_again, parameters_from}
 use Rattle.glsl_preproc.specs.DirectiveViews.{standing}
@@ -23,15 +23,15 @@ other_other : (b : Bool) → Other ≡ cond b Same Other → b ≡ false
 other_other true e = absurd cc
 other_other false e = refl
 
-pub defined_new : (macros : List PlainMacro) (m : PlainMacro) (o : Option PlainMacro) → New ≡ standing m o → defined_again macros m o ≡ Some (macros ++ m ∷ [])
+pub defined_new : (macros : MacroMap) (m : PlainMacro) (o : Option PlainMacro) → New ≡ standing m o → defined_again macros m o ≡ Some (with_macro macros m)
 defined_new macros m None e = refl
 defined_new macros m (Some old) e = absurd (other_new (same_macro old m) e)
 
-pub defined_same : (macros : List PlainMacro) (m : PlainMacro) (o : Option PlainMacro) → Same ≡ standing m o → defined_again macros m o ≡ Some macros
+pub defined_same : (macros : MacroMap) (m : PlainMacro) (o : Option PlainMacro) → Same ≡ standing m o → defined_again macros m o ≡ Some macros
 defined_same macros m None e = absurd cc
 defined_same macros m (Some old) e = cond-true (same_macro old m) _ _ (other_same (same_macro old m) e)
 
-pub defined_other : (macros : List PlainMacro) (m : PlainMacro) (o : Option PlainMacro) → Other ≡ standing m o → defined_again macros m o ≡ None
+pub defined_other : (macros : MacroMap) (m : PlainMacro) (o : Option PlainMacro) → Other ≡ standing m o → defined_again macros m o ≡ None
 defined_other macros m None e = absurd cc
 defined_other macros m (Some old) e = cond-false (same_macro old m) _ _ (other_other (same_macro old m) e)
 

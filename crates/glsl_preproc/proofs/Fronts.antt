@@ -2,7 +2,7 @@
 use Rattle.std.proofs.Common.{◌++◌, ℕ, zero, suc, List, [], ◌∷◌, Result, Ok, Err, refl, sym, ap, ◌∙◌, subst}
 use Rattle.std.proofs.lemmas.List.{append-nil, append_assoc}
 use Rattle.glsl_tree.specs.Token.{PlainToken}
-use Rattle.glsl_preproc.specs.Macros.{PlainMacro}
+use Rattle.glsl_preproc.specs.Macros.{MacroMap, PlainMacro}
 use Rattle.glsl_preproc.specs.Replacement.{Outcome, End, Whole, Failed, Deeper, Use, Kept, LineNumber, Object, Call, WrongCount, use_of, line_number, at_line, list_from, expanded, object_outcome, call_outcome, called_with, expanded_arguments, substituted}
 use Rattle.glsl_preproc.specs.Levels.{IsFront}
 use Rattle.glsl_preproc.proofs.Expanding.{Below, behind, stepped, step_is}
@@ -20,7 +20,7 @@ front_then first second third f s = (f.0 ++ s.0, s.1 ∙ ap (λ l. l ++ s.0) f.1
 abbrev pub Begins : Below → Type 0
 Begins below = (hidden : List (List ℕ)) (done list : List PlainToken) → IsFront done (below hidden done list).tokens
 
-pub behind_begins : (below : Below) (macros : List PlainMacro) (hidden : List (List ℕ)) (n : ℕ) (rest : List PlainToken) (o : Outcome)
+pub behind_begins : (below : Below) (macros : MacroMap) (hidden : List (List ℕ)) (n : ℕ) (rest : List PlainToken) (o : Outcome)
     → ((done : List PlainToken) → IsFront done (list_from below macros hidden done n rest).tokens) → IsFront o.tokens (behind below macros hidden n rest o).tokens
 behind_begins below macros hidden n rest o h = by_end o.end
   where
@@ -36,7 +36,7 @@ call_begins below hidden done t m parameters arguments h = by_arguments (expande
     by_arguments (Ok lists) = h (hidden ++ t.text ∷ []) done (substituted parameters lists t.line m.body)
     by_arguments (Err end) = front_self done
 
-pub list_begins : (below : Below) (macros : List PlainMacro) (hidden : List (List ℕ)) (list : List PlainToken) → Begins below → (done : List PlainToken) (k : ℕ) → IsFront done (list_from below macros hidden done k list).tokens
+pub list_begins : (below : Below) (macros : MacroMap) (hidden : List (List ℕ)) (list : List PlainToken) → Begins below → (done : List PlainToken) (k : ℕ) → IsFront done (list_from below macros hidden done k list).tokens
 unfolding list_from
 list_begins below macros hidden [] h done k = front_self done
 list_begins below macros hidden (t ∷ rest) h done (suc k) = list_begins below macros hidden rest h done k
@@ -51,7 +51,7 @@ list_begins below macros hidden (t ∷ rest) h done zero = let P : Outcome → T
     by_use goes (Call m parameters arguments n) = front_then done (call_outcome below hidden done t m parameters arguments).tokens _ (call_begins below hidden done t m parameters arguments h)
         (behind_begins below macros hidden n rest (call_outcome below hidden done t m parameters arguments) (λ d. goes d n))
 
-pub expanded_begins : (n : ℕ) (macros : List PlainMacro) (hidden : List (List ℕ)) (done list : List PlainToken) → IsFront done (expanded n macros hidden done list).tokens
+pub expanded_begins : (n : ℕ) (macros : MacroMap) (hidden : List (List ℕ)) (done list : List PlainToken) → IsFront done (expanded n macros hidden done list).tokens
 unfolding expanded
 expanded_begins zero macros hidden done list = front_self done
 expanded_begins (suc n) macros hidden done list = list_begins (expanded n macros) macros hidden list (expanded_begins n macros) done 0

@@ -1,7 +1,7 @@
 -- What a step does with the tokens so far.
 use Rattle.std.proofs.Common.{◌≡◌, ℕ, Bool, true, false, not, ◌&&◌, eqb, cond, List, [], ◌∷◌, Option, Some, None, refl, ◌∙◌}
 use Rattle.glsl_tree.specs.Token.{PlainToken}
-use Rattle.glsl_preproc.specs.Macros.{PlainMacro}
+use Rattle.glsl_preproc.specs.Macros.{MacroMap}
 use Rattle.glsl_preproc.specs.Replacement.{Outcome, End, Whole, Failed, Deeper, expanded}
 use Rattle.glsl_preproc.specs.Conditions.{Judged, Yes, No, Fails, Unknown, condition}
 use Rattle.glsl_preproc.specs.Directives.{kind_of, after_define, after_undef, asked_defined, is_version, is_extension, are_line_numbers}
@@ -18,7 +18,7 @@ unless_keeps : (b : Bool) (s : State) (line : ℕ) → step_tokens (unless b s l
 unless_keeps true s line = refl
 unless_keeps false s line = refl
 
-macros_keep : (s : State) (line : ℕ) (o : Option (List PlainMacro)) → step_tokens (with_macros s line o) ≡ s.tokens
+macros_keep : (s : State) (line : ℕ) (o : Option MacroMap) → step_tokens (with_macros s line o) ≡ s.tokens
 macros_keep s line None = refl
 macros_keep s line (Some macros) = refl
 

@@ -9,8 +9,9 @@ pub mod TextDefinitions
 pub mod TextLines
 pub mod SourceText
 pub mod Items
+pub mod Digits
 pub mod Same
-pub mod Slots
+pub mod Entries
 pub mod NamePlaces
 pub mod Fitting
 pub mod ArgumentLists

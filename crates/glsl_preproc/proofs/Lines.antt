@@ -1,5 +1,5 @@
 -- The reader's steps, and the lines of a source.
-use Rattle.std.proofs.Common.{◌≡◌, ◌<◌, ◌≤◌, ◌+◌, ◌++◌, ℕ, Bool, true, false, cond, List, [], ◌∷◌, length, take, drop, get_or, reverse, Option, Some, None, Err, refl, sym, ap, subst, ◌∙◌, arith, inl, inr, ◌⊎◌}
+use Rattle.std.proofs.Common.{◌≡◌, ◌<◌, ◌≤◌, ◌+◌, ◌++◌, ℕ, Bool, true, false, cond, List, [], ◌∷◌, length, map, take, drop, get_or, reverse, Option, Some, None, Err, refl, sym, ap, subst, ◌∙◌, arith, inl, inr, ◌⊎◌}
 use Rattle.std.proofs.lemmas.Bool.{cond-true, cond-false}
 use Rattle.std.proofs.lemmas.List.{reverse-append, drop_more, take_more, take_all, map_push, drop-drop, get_or-drop}
 use Rattle.glsl_preproc.proofs.Ways.{two_ways}
@@ -179,8 +179,8 @@ ok_next n s new line t rest l h = lines_next n s line t rest l ∙ ap (next_behi
 pub at_place : (count : ℕ) (rest : List Token) (x : Token) → count < length rest → x ≡ get_or rest count x → plain_tokens (drop count rest) ≡ plain x ∷ plain_tokens (drop (count + 1) rest)
 at_place count rest x h e = ap plain_tokens (drop_more rest count x h ∙ ap (λ y. y ∷ drop (count + 1) rest) (sym e))
 
-pub one_longer : (count : ℕ) (rest : List Token) (x : Token) → count < length rest → x ≡ get_or rest count x → plain_tokens (take (count + 1) rest) ≡ plain_tokens (take count rest) ++ plain x ∷ []
-one_longer count rest x h e = ap plain_tokens (take_more rest count x h ∙ ap (λ y. take count rest ++ y ∷ []) (sym e)) ∙ map_push plain (take count rest) x
+pub one_longer : {X : Type 0} (f : X → PlainToken) (count : ℕ) (rest : List X) (x : X) → count < length rest → x ≡ get_or rest count x → map f (take (count + 1) rest) ≡ map f (take count rest) ++ f x ∷ []
+one_longer f count rest x h e = ap (map f) (take_more rest count x h ∙ ap (λ y. take count rest ++ y ∷ []) (sym e)) ∙ map_push f (take count rest) x
 
 pub first_or : (cs : List Conditional) (d : Conditional) → 0 < length cs → get_or cs 0 d ≡ get_or cs 0 (get_or cs 0 d)
 first_or [] d h = absurd (omega arith)
@@ -191,7 +191,7 @@ pub at_begin : (n : ℕ) (s : State) (tokens : List Token) (k : ℕ) → k ≡ 0
 unfolding expansion
 at_begin n s tokens k e h = ap (λ j. lines_from n s (plain_tokens (take j tokens)) (plain_tokens tokens)) e ∙ ap (λ t. lines_from n t [] (plain_tokens tokens)) h
 
-pub place_more : (start rest : List Token) (k j : ℕ) → drop k start ≡ rest → j ≡ k + 1 → drop j start ≡ drop 1 rest
+pub place_more : {X : Type 0} (start rest : List X) (k j : ℕ) → drop k start ≡ rest → j ≡ k + 1 → drop j start ≡ drop 1 rest
 place_more start rest k j p e = ap (λ i. drop i start) e ∙ sym (drop-drop 1 k start) ∙ ap (drop 1) p
 
 pub line_more : (n : ℕ) (s : State) (start rest : List Token) (x : Token) (k j : ℕ) → drop k start ≡ rest → j ≡ k + 1 → k < length start → 0 < length rest → x ≡ get_or rest 0 x → is_line_end (plain x) ≡ false
@@ -199,7 +199,7 @@ pub line_more : (n : ℕ) (s : State) (start rest : List Token) (x : Token) (k j
 line_more n s start rest x k j p e lt some is other =
     let here : get_or rest 0 x ≡ get_or start k x = ap (λ l. get_or l 0 x) (sym p) ∙ get_or-drop k start 0 x ∙ ap (λ i. get_or start i x) (omega arith) in
     ap (λ i. lines_from n s (plain_tokens (take i start)) (plain_tokens (drop 1 rest))) e
-    ∙ ap (λ l. lines_from n s l (plain_tokens (drop 1 rest))) (one_longer k start x lt (is ∙ here))
+    ∙ ap (λ l. lines_from n s l (plain_tokens (drop 1 rest))) (one_longer plain k start x lt (is ∙ here))
     ∙ sym (at_first (λ l. lines_from n s (plain_tokens (take k start)) (plain_tokens l)) rest x some is ∙ lines_more n s (plain_tokens (take k start)) (plain x) (plain_tokens (drop 1 rest)) other)
 
 pub line_done : (n : ℕ) (s new : State) (start rest : List Token) (x : Token) (k : ℕ) → 0 < length rest → x ≡ get_or rest 0 x → is_line_end (plain x) ≡ true → line_of n s (plain_tokens (take k start)) ≡ Next new

@@ -1,9 +1,10 @@
 -- The `)` that close no `(`, counted from the end of a list.
 use Rattle.std.proofs.Common.{◌≡◌, ◌<◌, ◌≤◌, ◌+◌, ◌-◌, ◌++◌, ℕ, zero, suc, Bool, true, false, cond, eqb, ◌&&◌, List, [], ◌∷◌, length, take, drop, get_or, Some, None, refl, sym, ap, subst, ◌∙◌, arith}
 use Rattle.std.proofs.lemmas.Bool.{eqb-true}
-use Rattle.std.proofs.lemmas.List.{get_or_append_left, get_or_push, length-map, length-drop, take_all}
-use Rattle.glsl_tree.specs.Token.{PlainToken, plain, plain_tokens}
-use Rattle.glsl_tree.specs.declared.token.Token.{Token}
+use Rattle.std.proofs.lemmas.List.{get_or_append_left, get_or_push, length-map, length-drop, take_all, drop-drop}
+use Rattle.glsl_tree.specs.Token.{PlainToken}
+use Rattle.glsl_preproc.specs.Views.{plain_piece, plain_pieces}
+use Rattle.glsl_preproc.specs.declared.pieces.Piece.{Piece}
 use Rattle.glsl_preproc.specs.Replacement.{arguments_from, opens, closes, is_comma}
 use Rattle.glsl_preproc.specs.LoneClosers.{lone_closers, AreCounts}
 
@@ -19,16 +20,22 @@ unfolding AreCounts
 is_count counts [] known h = known h
 is_count counts (t ∷ rest) known h = known.0 h
 
-pub counts_behind : (counts : List ℕ) (k : ℕ) (list : List Token) → AreCounts counts (plain_tokens list) → AreCounts counts (plain_tokens (drop k list))
+pub counts_behind : (counts : List ℕ) (k : ℕ) (list : List Piece) → AreCounts counts (plain_pieces list) → AreCounts counts (plain_pieces (drop k list))
 unfolding AreCounts
 counts_behind counts zero list known = known
 counts_behind counts (suc k) [] known = known
 counts_behind counts (suc k) (t ∷ list) known = counts_behind counts k list known.1
 
-pub counts_behind_bracket : (counts : List ℕ) (list : List Token) → AreCounts counts (plain_tokens list) → AreCounts counts (plain_tokens (take (length list - 1) (drop 1 list)))
+-- the same by places
+pub counts_later : (counts : List ℕ) (at k next : ℕ) (list : List Piece) → next ≡ at + k → AreCounts counts (plain_pieces (drop at list)) → AreCounts counts (plain_pieces (drop next list))
+counts_later counts at k next list e known =
+    let P : List Piece → Type 0 = λ l. AreCounts counts (plain_pieces l) in
+    subst P (drop-drop k at list ∙ ap (λ i. drop i list) (sym e)) (counts_behind counts k (drop at list) known)
+
+pub counts_behind_bracket : (counts : List ℕ) (list : List Piece) → AreCounts counts (plain_pieces list) → AreCounts counts (plain_pieces (take (length list - 1) (drop 1 list)))
 counts_behind_bracket counts list known =
     let dropped = length-drop 1 list in
-    let P : List Token → Type 0 = λ l. AreCounts counts (plain_tokens l) in
+    let P : List Piece → Type 0 = λ l. AreCounts counts (plain_pieces l) in
     subst P (sym (take_all (length list - 1) (drop 1 list) (omega arith))) (counts_behind counts 1 list known)
 
 -- a count more says nothing of the shorter ends
@@ -48,20 +55,20 @@ unfolding lone_closers
 counted t rest count e = ap (λ n. cond (opens t) (n - 1) (cond (closes t) (n + 1) n)) e
 
 -- before the first token that is counted
-pub at_end : (counts : List ℕ) (rest : List Token) → counts ≡ 0 ∷ [] → rest ≡ [] → AreCounts counts (plain_tokens rest)
+pub at_end : (counts : List ℕ) (rest : List Piece) → counts ≡ 0 ∷ [] → rest ≡ [] → AreCounts counts (plain_pieces rest)
 unfolding AreCounts lone_closers
 at_end counts [] e f = λ h. ap (λ l. get_or l 0 0) e
 at_end counts (t ∷ rest) e f = absurd cc
 
-pub none_at_end : (rest : List Token) → rest ≡ [] → 0 ≡ lone_closers (plain_tokens rest)
+pub none_at_end : (rest : List Piece) → rest ≡ [] → 0 ≡ lone_closers (plain_pieces rest)
 unfolding lone_closers
 none_at_end [] e = refl
 none_at_end (t ∷ rest) e = absurd cc
 
-pub asked : (counts : List ℕ) (rest : List Token) → AreCounts counts (plain_tokens rest) → length rest < length counts → get_or counts (length rest) 0 ≡ lone_closers (plain_tokens rest)
+pub asked : (counts : List ℕ) (rest : List Piece) → AreCounts counts (plain_pieces rest) → length rest < length counts → get_or counts (length rest) 0 ≡ lone_closers (plain_pieces rest)
 asked counts rest known h =
-    let same = length-map rest plain in
-    ap (λ n. get_or counts n 0) (sym same) ∙ is_count counts (plain_tokens rest) known (omega arith)
+    let same = length-map rest plain_piece in
+    ap (λ n. get_or counts n 0) (sym same) ∙ is_count counts (plain_pieces rest) known (omega arith)
 
 pub drop_at : {X : Type 0} (xs : List X) (k : ℕ) (x : X) → k < length xs → x ≡ get_or xs k x → drop k xs ≡ x ∷ drop (suc k) xs
 drop_at [] k x h e = absurd (omega arith)

@@ -1,7 +1,7 @@
 -- More levels of nesting: what they change in the expression of an `#if`.
 use Rattle.std.proofs.Common.{◌≤◌, ◌+◌, ℕ, ℤ, zero, suc, Bool, true, false, cond, List, [], ◌∷◌, Option, Some, None, codes, refl, sym, ap, subst, arith}
 use Rattle.glsl_tree.specs.Token.{PlainToken}
-use Rattle.glsl_preproc.specs.Macros.{PlainMacro, is_text}
+use Rattle.glsl_preproc.specs.Macros.{MacroMap, is_text}
 use Rattle.glsl_preproc.specs.Replacement.{Outcome, End, Whole, Failed, Deeper, ended, opens, expanded}
 use Rattle.glsl_preproc.specs.Values.{applied, operator_of, negated, complemented, inverted}
 use Rattle.glsl_preproc.specs.Conditions.{Parsed, Read, Wrong, TooDeep, in_brackets, behind_sign, same_value, primary_of, operand_at, at_level, chain_from, chain_behind, expression_at, operand_within, Judged, Yes, No, Fails, Unknown, judged, judged_outcome, judged_answered, answered_from, condition}
@@ -106,7 +106,7 @@ outcome_grows n m h tokens (Failed line) o g = ap (judged_outcome m) g
 outcome_grows n m h tokens Deeper o g = tt
 
 -- a condition that is judged is judged so with more levels
-pub condition_grows : (n m : ℕ) (macros : List PlainMacro) (list : List PlainToken) → n ≤ m → ExtendsJudged (condition n macros list) (condition m macros list)
+pub condition_grows : (n m : ℕ) (macros : MacroMap) (list : List PlainToken) → n ≤ m → ExtendsJudged (condition n macros list) (condition m macros list)
 unfolding condition
 condition_grows n m macros list h = by_answered (answered_from macros [] 0 list)
   where

@@ -1,7 +1,7 @@
 -- More levels of nesting: what they change in the expansion of a list.
 use Rattle.std.proofs.Common.{◌≤◌, ◌++◌, ℕ, zero, suc, List, [], ◌∷◌, Result, Ok, Err, refl, sym, ap, subst, arith}
 use Rattle.glsl_tree.specs.Token.{PlainToken}
-use Rattle.glsl_preproc.specs.Macros.{PlainMacro}
+use Rattle.glsl_preproc.specs.Macros.{MacroMap, PlainMacro}
 use Rattle.glsl_preproc.specs.Replacement.{Outcome, End, Whole, Failed, Deeper, ended, Use, Kept, LineNumber, Object, Call, WrongCount, use_of, line_number, at_line, list_from, expanded, object_outcome, call_outcome, called_with, expanded_arguments, substituted}
 use Rattle.glsl_preproc.specs.Levels.{IsFront, ExtendsAt, Extends, ExtendsArguments}
 use Rattle.glsl_preproc.proofs.Expanding.{Below, behind, stepped, step_is}
@@ -45,13 +45,13 @@ call_grows less more hidden done t m parameters arguments h b =
     by_arguments (Err (Failed line)) q g f = ap (called_with more hidden done t m parameters) g
     by_arguments (Err Deeper) q g f = f
 
-behind_grows : (less more : Below) (macros : List PlainMacro) (hidden : List (List ℕ)) (n : ℕ) (rest : List PlainToken) → Begins more → ((d : List PlainToken) → Extends (list_from less macros hidden d n rest) (list_from more macros hidden d n rest))
+behind_grows : (less more : Below) (macros : MacroMap) (hidden : List (List ℕ)) (n : ℕ) (rest : List PlainToken) → Begins more → ((d : List PlainToken) → Extends (list_from less macros hidden d n rest) (list_from more macros hidden d n rest))
     → (tokens : List PlainToken) (e : End) (o : Outcome) → ExtendsAt e (ended tokens e) o → Extends (behind less macros hidden n rest (ended tokens e)) (behind more macros hidden n rest o)
 behind_grows less more macros hidden n rest b goes tokens Whole o g = let P : Outcome → Type 0 = λ x. Extends (list_from less macros hidden tokens n rest) (behind more macros hidden n rest x) in subst P (sym g) (goes tokens)
 behind_grows less more macros hidden n rest b goes tokens (Failed line) o g = ap (behind more macros hidden n rest) g
 behind_grows less more macros hidden n rest b goes tokens Deeper o g = front_then tokens o.tokens _ g (behind_begins more macros hidden n rest o (λ d. list_begins more macros hidden rest b d n))
 
-pub list_grows : (less more : Below) (macros : List PlainMacro) (hidden : List (List ℕ)) → Grows less more → Begins more → (list done : List PlainToken) (k : ℕ) → Extends (list_from less macros hidden done k list) (list_from more macros hidden done k list)
+pub list_grows : (less more : Below) (macros : MacroMap) (hidden : List (List ℕ)) → Grows less more → Begins more → (list done : List PlainToken) (k : ℕ) → Extends (list_from less macros hidden done k list) (list_from more macros hidden done k list)
 unfolding list_from
 list_grows less more macros hidden h b [] done k = refl
 list_grows less more macros hidden h b (t ∷ rest) done (suc k) = list_grows less more macros hidden h b rest done k
@@ -70,7 +70,7 @@ list_grows less more macros hidden h b (t ∷ rest) done zero =
         behind_grows less more macros hidden n rest b (λ d. goes d n) o.tokens o.end (call_outcome more hidden done t m parameters arguments) (call_grows less more hidden done t m parameters arguments h b)
 
 -- an expansion with more levels extends the one with fewer
-pub expanded_grows : (n m : ℕ) (macros : List PlainMacro) → n ≤ m → Grows (expanded n macros) (expanded m macros)
+pub expanded_grows : (n m : ℕ) (macros : MacroMap) → n ≤ m → Grows (expanded n macros) (expanded m macros)
 unfolding expanded
 expanded_grows zero m macros h hidden done list = expanded_begins m macros hidden done list
 expanded_grows (suc n) zero macros h hidden done list = absurd (omega arith)

@@ -1,14 +1,20 @@
 -- Names by their places, where one more is added and where the last is taken away.
-use Rattle.std.proofs.Common.{◌≡◌, ◌<◌, ◌≤◌, ◌++◌, ◌||◌, ◌≢◌, ℕ, zero, suc, Bool, true, false, cond, List, [], ◌∷◌, length, get_or, Option, Some, None, option_map, is_some, bytes_eq, map, Vec, Global, refl, sym, ap, ◌∙◌, arith}
+use Rattle.std.proofs.Common.{◌≡◌, ◌<◌, ◌≤◌, ◌++◌, ◌||◌, ◌≢◌, ℕ, suc, Bool, true, false, cond, List, [], ◌∷◌, length, get_or, Option, Some, None, option_map, is_some, bytes_eq, map, Vec, Global, nat_cmp, is_eq, ◌⊎◌, inl, inr, refl, sym, ap, ◌∙◌, arith}
 use Rattle.std.specs.List.{list_any, slice_get}
-use Rattle.std.proofs.lemmas.Bool.{cond-true, cond-false}
+use Rattle.std.proofs.lemmas.Bool.{cond-true, cond-false, cases_Bool}
 use Rattle.std.proofs.lemmas.List.{map_push}
 use Rattle.std.proofs.lemmas.Slice.Eq.{bytes_eq-Decides}
-use Rattle.std.proofs.lemmas.Option.{slice_get-map, slice_get_read, slice_get_past}
-use Rattle.glsl_tree.specs.Token.{PlainToken, plain_tokens}
-use Rattle.glsl_tree.specs.declared.token.Token.{Token}
-use Rattle.glsl_preproc.specs.Views.{lists}
-use Rattle.glsl_preproc.specs.NamePlaces.{index_of, IsPlaced}
+use Rattle.std.proofs.lemmas.Option.{slice_get_read, slice_get_past}
+use Rattle.glsl_tree.specs.Token.{PlainToken}
+use Rattle.std.specs.Map.{lookup, KeepsOthers}
+use Rattle.std.specs.BTreeMap as tree
+use Rattle.std.specs.BTreeMap.{BTreeMap, is_at}
+use Rattle.std.specs.Ordering.{eq_by_cmp}
+use Rattle.std.specs.Cmp.{eq_by_cmp_equiv}
+use Rattle.std.specs.Cmp.Lexicographic.{slice_cmp}
+use Rattle.std.proofs.lemmas.Cmp.{nat_list_cmp_total}
+use Rattle.std.proofs.lemmas.Map.Text.{is_eq-slice_cmp}
+use Rattle.glsl_preproc.specs.NamePlaces.{index_of, place_of, IsPlaced}
 use Rattle.glsl_preproc.specs.Replacement.{argument_of}
 
 abbrev behind : Option ℕ → Option ℕ → Option ℕ
@@ -155,16 +161,38 @@ found [] arguments q = refl
 found (n ∷ names) [] q = empty_step (bytes_eq n q) (index_of names q)
 found (n ∷ names) (a ∷ arguments) q = first_step (bytes_eq n q) (index_of names q) a arguments (argument_of names arguments q) (found names arguments q)
 
-pub argument_at : (names : List (List ℕ)) (arguments : List (Vec Token Global)) (q : List ℕ) (i : ℕ) (a : Vec Token Global) → index_of names q ≡ Some i → i < length arguments → a ≡ get_or arguments i a
-    → argument_of names (lists arguments) q ≡ Some (plain_tokens a.items)
-argument_at names arguments q i a e h f =
-    found names (lists arguments) q ∙ ap (λ o. at_place o (lists arguments)) e ∙ slice_get-map (λ v. plain_tokens v.items) arguments i
-    ∙ ap (option_map (λ v. plain_tokens v.items)) (slice_get_read arguments (length arguments) i a refl h f)
+pub argument_at : (names : List (List ℕ)) (arguments : List (List PlainToken)) (q : List ℕ) (i : ℕ) (a : List PlainToken) → index_of names q ≡ Some i → i < length arguments → a ≡ get_or arguments i a
+    → argument_of names arguments q ≡ Some a
+argument_at names arguments q i a e h f = found names arguments q ∙ ap (λ o. at_place o arguments) e ∙ slice_get_read arguments (length arguments) i a refl h f
 
-pub argument_past : (names : List (List ℕ)) (arguments : List (Vec Token Global)) (q : List ℕ) (i : ℕ) → index_of names q ≡ Some i → length arguments ≤ i → argument_of names (lists arguments) q ≡ None
-argument_past names arguments q i e h =
-    found names (lists arguments) q ∙ ap (λ o. at_place o (lists arguments)) e ∙ slice_get-map (λ v. plain_tokens v.items) arguments i
-    ∙ ap (option_map (λ v. plain_tokens v.items)) (slice_get_past arguments i h)
+pub argument_past : (names : List (List ℕ)) (arguments : List (List PlainToken)) (q : List ℕ) (i : ℕ) → index_of names q ≡ Some i → length arguments ≤ i → argument_of names arguments q ≡ None
+argument_past names arguments q i e h = found names arguments q ∙ ap (λ o. at_place o arguments) e ∙ slice_get_past arguments i h
 
 pub argument_none : (names : List (List ℕ)) (arguments : List (List PlainToken)) (q : List ℕ) → index_of names q ≡ None → argument_of names arguments q ≡ None
 argument_none names arguments q e = found names arguments q ∙ ap (λ o. at_place o arguments) e
+
+-- the places of names after a change at the bytes of one
+apart : (bs q ks : List ℕ) → bytes_eq bs q ≡ false → is_eq (slice_cmp nat_cmp bs ks) ≡ true → is_eq (slice_cmp nat_cmp q ks) ≡ false
+apart bs q ks n y = by_other (cases_Bool (is_eq (slice_cmp nat_cmp q ks)))
+  where
+    by_other : (is_eq (slice_cmp nat_cmp q ks) ≡ true) ⊎ (is_eq (slice_cmp nat_cmp q ks) ≡ false) → is_eq (slice_cmp nat_cmp q ks) ≡ false
+    by_other (inr apart_too) = apart_too
+    by_other (inl both) =
+        let first = (bytes_eq-Decides bs ks).0 (sym (is_eq-slice_cmp bs ks) ∙ y) in
+        let second = (bytes_eq-Decides q ks).0 (sym (is_eq-slice_cmp q ks) ∙ both) in
+        let same = (bytes_eq-Decides bs q).1 (first ∙ sym second) in
+        absurd cc
+
+others : (bs q : List ℕ) (old new : List (Vec ℕ Global × ℕ)) → bytes_eq bs q ≡ false
+    → KeepsOthers (eq_by_cmp (λ x y. slice_cmp nat_cmp x.items y.items)) (is_at (λ k. slice_cmp nat_cmp bs k.items)) old new
+    → lookup (is_at (λ k. slice_cmp nat_cmp q k.items)) new ≡ lookup (is_at (λ k. slice_cmp nat_cmp q k.items)) old
+unfolding KeepsOthers
+others bs q old new n h = h (is_at (λ k. slice_cmp nat_cmp q k.items)) (λ x y. (eq_by_cmp_equiv nat_list_cmp_total).congr q x.items y.items) (λ k. apart bs q k.items n)
+
+pub places_after : (bs : List ℕ) (old new : BTreeMap (Vec ℕ Global) ℕ) (w : Option ℕ)
+    → tree.UpdatesBy (λ x y. slice_cmp nat_cmp x.items y.items) (λ k. slice_cmp nat_cmp bs k.items) old new w → (q : List ℕ) → place_of new q ≡ cond (bytes_eq bs q) w (place_of old q)
+places_after bs old new w h q = by_test (bytes_eq bs q) refl
+  where
+    by_test : (b : Bool) → bytes_eq bs q ≡ b → place_of new q ≡ cond (bytes_eq bs q) w (place_of old q)
+    by_test true t = ap (place_of new) (sym ((bytes_eq-Decides bs q).0 t)) ∙ h.1 ∙ sym (cond-true _ w (place_of old q) t)
+    by_test false t = others bs q old.entries new.entries t h.3 ∙ sym (cond-false _ w (place_of old q) t)

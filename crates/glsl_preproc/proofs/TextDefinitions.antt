@@ -1,12 +1,16 @@
 -- Where the class Params may stand, and the macros that directives define of such lines.
-use Rattle.std.proofs.Common.{◌≡◌, ◌++◌, ◌⊎◌, inl, inr, ℕ, Bool, true, false, not, ◌&&◌, ◌||◌, eqb, cond, List, [], ◌∷◌, Option, Some, None, IfSome, All, filter, codes, bytes_eq, refl, sym, ap, subst, ◌∙◌}
+use Rattle.std.proofs.Common.{◌≡◌, ◌++◌, ◌⊎◌, inl, inr, ℕ, Bool, true, false, not, ◌&&◌, ◌||◌, eqb, cond, List, [], ◌∷◌, Option, Some, None, IfSome, All, codes, refl, sym, ap, subst, ◌∙◌}
 use Rattle.std.proofs.lemmas.Bool.{and_parts, and_from}
-use Rattle.std.proofs.lemmas.List.Elements.{All-nil, All-cons, All-head, All-tail, All-push, All-drop, All-filter}
+use Rattle.std.proofs.lemmas.List.Elements.{All-nil, All-cons, All-head, All-tail, All-drop}
+use Rattle.std.specs.BTreeMap.{is_at}
+use Rattle.std.specs.Ordering.{nat_cmp}
+use Rattle.std.specs.Cmp.Lexicographic.{slice_cmp}
+use Rattle.std.proofs.lemmas.Map.Views.{All-values-insert_entry, All-map-remove_entry}
 use Rattle.glsl_tree.specs.Token.{PlainToken}
 use Rattle.glsl_tree.specs.declared.token.Class.{Class}
 use Rattle.glsl_tree.specs.declared.token.Class.TheVariants.{Identifier, Keyword, Int, Float, Punct, Hash, NewLine, Params}
-use Rattle.glsl_preproc.specs.Macros.{PlainMacro, is_text, is_name_token, is_reserved, find_macro, same_macro}
-use Rattle.glsl_preproc.specs.Directives.{is_hash_token, is_params, parameters_at, with_parameters, macro_of, definition_of, defined_again, with_macro, after_define, after_undef}
+use Rattle.glsl_preproc.specs.Macros.{MacroMap, PlainMacro, is_text, is_name_token, is_reserved, find_macro, with_macro, without_macro, same_macro}
+use Rattle.glsl_preproc.specs.Directives.{is_hash_token, is_params, parameters_at, with_parameters, macro_of, definition_of, defined_again, after_definition, after_define, after_undef}
 use Rattle.glsl_preproc.specs.Expansion.{stray_hash, before_hash, is_line_end}
 use Rattle.glsl_preproc.specs.TextTokens.{IsTextToken, defining, are_params_behind}
 use Rattle.glsl_preproc.proofs.Ways.{two_ways}
@@ -150,7 +154,16 @@ definition_text k (t ∷ rest) w f h e = by_name (is_name_token t && not (is_res
     by_name true = body_text t.text (defining k t) rest (more w) (fits_first k t rest f).1 (All-tail IsNoHash t rest h) (All-tail IsNoEnd t rest e)
     by_name false = tt
 
-defined_text : (macros : List PlainMacro) (o : Option PlainMacro) → AreTextMacros macros → IfSome o HasTextBody → IfSome (with_macro macros o) AreTextMacros
+-- one more macro, and one less
+pub with_text : (macros : MacroMap) (m : PlainMacro) → AreTextMacros macros → HasTextBody m → AreTextMacros (with_macro macros m)
+unfolding with_macro
+with_text macros m h b = All-values-insert_entry (slice_cmp nat_cmp) m.name m HasTextBody macros h b
+
+without_text : (macros : MacroMap) (name : List ℕ) → AreTextMacros macros → AreTextMacros (without_macro macros name)
+unfolding without_macro
+without_text macros name h = All-map-remove_entry (is_at (slice_cmp nat_cmp name)) (λ e. e.1) HasTextBody macros h
+
+defined_text : (macros : MacroMap) (o : Option PlainMacro) → AreTextMacros macros → IfSome o HasTextBody → IfSome (after_definition macros o) AreTextMacros
 defined_text macros None m h = tt
 defined_text macros (Some macro) m h = by_old (find_macro macros macro.name)
   where
@@ -159,20 +172,20 @@ defined_text macros (Some macro) m h = by_old (find_macro macros macro.name)
     by_same false = tt
 
     by_old : (o : Option PlainMacro) → IfSome (defined_again macros macro o) AreTextMacros
-    by_old None = All-push HasTextBody macros macro m h
+    by_old None = with_text macros macro m h
     by_old (Some old) = by_same (same_macro old macro)
 
-pub define_text : (macros : List PlainMacro) (k : ℕ) (list : List PlainToken) → AreTextMacros macros → (k ≡ 0) ⊎ (k ≡ 2) → Fits k list → All IsNoHash list → All IsNoEnd list → IfSome (after_define macros list) AreTextMacros
+pub define_text : (macros : MacroMap) (k : ℕ) (list : List PlainToken) → AreTextMacros macros → (k ≡ 0) ⊎ (k ≡ 2) → Fits k list → All IsNoHash list → All IsNoEnd list → IfSome (after_define macros list) AreTextMacros
 unfolding after_define
 define_text macros k list m w f h e = defined_text macros (definition_of list) m (definition_text k list w f h e)
 
-pub undef_text : (macros : List PlainMacro) (list : List PlainToken) → AreTextMacros macros → IfSome (after_undef macros list) AreTextMacros
+pub undef_text : (macros : MacroMap) (list : List PlainToken) → AreTextMacros macros → IfSome (after_undef macros list) AreTextMacros
 unfolding after_undef
 undef_text macros [] m = tt
 undef_text macros (t ∷ []) m = by_name (is_name_token t && not (is_reserved t.text))
   where
-    by_name : (b : Bool) → IfSome (cond b (Some (filter (λ k. not (bytes_eq k.name t.text)) macros)) None) AreTextMacros
-    by_name true = All-filter (λ k. not (bytes_eq k.name t.text)) HasTextBody macros m
+    by_name : (b : Bool) → IfSome (cond b (Some (without_macro macros t.text)) None) AreTextMacros
+    by_name true = without_text macros t.text m
     by_name false = tt
 undef_text macros (t ∷ u ∷ rest) m = tt
 

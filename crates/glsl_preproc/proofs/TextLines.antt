@@ -1,10 +1,10 @@
 -- The lines of a source leave only tokens of a text.
 use Rattle.std.proofs.Common.{◌≡◌, ◌++◌, ◌⊎◌, inl, inr, ℕ, Bool, true, false, not, ◌&&◌, eqb, cond, List, [], ◌∷◌, Option, Some, None, IfSome, All, codes, refl, sym, ap, subst, ◌∙◌}
 use Rattle.std.proofs.lemmas.List.{append_assoc}
-use Rattle.std.proofs.lemmas.List.Elements.{All-nil, All-cons, All-head, All-tail, All-append, All-push, All-from_recursion}
+use Rattle.std.proofs.lemmas.List.Elements.{All-nil, All-cons, All-head, All-tail, All-append, All-push}
 use Rattle.glsl_tree.specs.Token.{PlainToken}
 use Rattle.glsl_tree.specs.declared.token.Class.TheVariants.{Int}
-use Rattle.glsl_preproc.specs.Macros.{PlainMacro, first_macros}
+use Rattle.glsl_preproc.specs.Macros.{MacroMap, first_macros}
 use Rattle.glsl_preproc.specs.Replacement.{Outcome, End, Whole, Failed, Deeper, ended, expanded}
 use Rattle.glsl_preproc.specs.Conditions.{Judged, Yes, No, Fails, Unknown, condition}
 use Rattle.glsl_preproc.specs.Directives.{kind_of, is_hash_token, definition_of, after_define, after_undef, asked_defined, is_version, is_extension, are_line_numbers}
@@ -18,7 +18,7 @@ use Rattle.glsl_preproc.specs.declared.kinds.Kind.TheVariants as kind
 use Rattle.glsl_preproc.proofs.Ways.{two_ways}
 use Rattle.glsl_preproc.proofs.Lines.{last_behind, next_behind, lines_last, lines_next, lines_more}
 use Rattle.glsl_preproc.proofs.TextMacros.{IsText, HasTextBody, AreTextMacros, expansion_text}
-use Rattle.glsl_preproc.proofs.TextDefinitions.{Fits, IsNoHash, IsNoEnd, fits_first, behind_hash, line_text, no_hash, before_text, define_text, undef_text, defining_at_end, fits_parts, defining_end}
+use Rattle.glsl_preproc.proofs.TextDefinitions.{Fits, IsNoHash, IsNoEnd, fits_first, behind_hash, line_text, no_hash, before_text, define_text, undef_text, with_text, defining_at_end, fits_parts, defining_end}
 
 -- Steps.
 abbrev IsTextState : State → Type 0
@@ -45,7 +45,7 @@ not_fresh_text : (step : Step) → IsTextStep step → IsTextStep (not_fresh ste
 not_fresh_text (Next s) h = h
 not_fresh_text (Stop o) h = h
 
-macros_text : (s : State) (line : ℕ) (o : Option (List PlainMacro)) → IsTextState s → IfSome o AreTextMacros → IsTextStep (with_macros s line o)
+macros_text : (s : State) (line : ℕ) (o : Option MacroMap) → IsTextState s → IfSome o AreTextMacros → IsTextStep (with_macros s line o)
 macros_text s line None h m = h.2
 macros_text s line (Some macros) h m = (m, h.1, h.2)
 
@@ -119,7 +119,7 @@ step_text n s line kind.Version list fresh h d = unless_text (not (fresh && is_v
 step_text n s line kind.Line list fresh h d = line_step_text s line (expanded n s.macros [] [] list) h
 step_text n s line kind.Unknown list fresh h d = h.2
 
-behind_text : (macros : List PlainMacro) (list : List PlainToken) → AreTextMacros macros → Fits 1 list → stray_hash list ≡ None → All IsNoEnd list → IfSome (after_define macros (behind_name list)) AreTextMacros
+behind_text : (macros : MacroMap) (list : List PlainToken) → AreTextMacros macros → Fits 1 list → stray_hash list ≡ None → All IsNoEnd list → IfSome (after_define macros (behind_name list)) AreTextMacros
 unfolding after_define definition_of
 behind_text macros [] m f h e = tt
 behind_text macros (t ∷ rest) m f h e =
@@ -255,7 +255,8 @@ lines_text n (t ∷ rest) s line h e f = by_end (two_ways (is_line_end t)) (λ u
 
 first_text : AreTextMacros first_macros
 unfolding first_macros
-first_text = All-from_recursion HasTextBody first_macros (All-nil IsTextToken, (one (codes "0"), (one (codes "100"), (one (codes "1"), (one (codes "1"), tt)))))
+first_text =
+    with_text _ _ (with_text _ _ (with_text _ _ (with_text _ _ (with_text [] _ (All-nil HasTextBody) (All-nil IsTextToken)) (one (codes "0"))) (one (codes "100"))) (one (codes "1"))) (one (codes "1"))
   where
     one : (text : List ℕ) → IsText (record { text = text; class = Int; line = 0 } ∷ [])
     one text = All-cons IsTextToken (record { text = text; class = Int; line = 0 }) [] refl (All-nil IsTextToken)

@@ -1,9 +1,13 @@
 -- The tokens of an expanded list are those of a text, where those of the list and of the macros are.
-use Rattle.std.proofs.Common.{◌+◌, ◌-◌, ◌++◌, ℕ, zero, suc, Bool, true, false, ◌&&◌, eqb, cond, List, [], ◌∷◌, Option, Some, None, Result, Ok, Err, IfSome, IfOk, All, codes, find, bytes_eq, refl, sym, subst}
+use Rattle.std.proofs.Common.{◌+◌, ◌-◌, ◌++◌, ℕ, zero, suc, Bool, true, false, ◌&&◌, eqb, cond, List, [], ◌∷◌, Option, Some, None, Result, Ok, Err, IfSome, IfOk, All, codes, bytes_eq, refl, sym, subst}
 use Rattle.std.proofs.lemmas.List.Elements.{All-nil, All-cons, All-head, All-tail, All-append, All-push, All-map}
 use Rattle.std.specs.List.{list_any}
+use Rattle.std.specs.Map.{lookup, values_of}
+use Rattle.std.specs.BTreeMap.{is_at}
+use Rattle.std.specs.Ordering.{nat_cmp}
+use Rattle.std.specs.Cmp.Lexicographic.{slice_cmp}
 use Rattle.glsl_tree.specs.Token.{PlainToken}
-use Rattle.glsl_preproc.specs.Macros.{PlainMacro, is_text, is_name_token, find_macro}
+use Rattle.glsl_preproc.specs.Macros.{MacroMap, PlainMacro, is_text, is_name_token, find_macro}
 use Rattle.glsl_preproc.specs.Replacement.{Outcome, End, Whole, Failed, Deeper, ended, opens, closes, is_comma, arguments_from, fits_parameters, Use, Kept, LineNumber, Object, Call, WrongCount, called, used, used_macro, use_of, line_number, at_line, argument_of, argument_or, substituted, list_from, expanded, object_outcome, call_outcome, called_with, expanded_arguments}
 use Rattle.glsl_preproc.specs.TextTokens.{IsTextToken}
 use Rattle.glsl_preproc.proofs.Expanding.{Below, behind, stepped, step_is}
@@ -15,8 +19,8 @@ IsText tokens = All IsTextToken tokens
 abbrev pub HasTextBody : PlainMacro → Type 0
 HasTextBody m = IsText m.body
 
-abbrev pub AreTextMacros : List PlainMacro → Type 0
-AreTextMacros macros = All HasTextBody macros
+abbrev pub AreTextMacros : MacroMap → Type 0
+AreTextMacros macros = All HasTextBody (values_of macros)
 
 abbrev AreTexts : List (List PlainToken) → Type 0
 AreTexts lists = All IsText lists
@@ -68,15 +72,15 @@ used_text m (Some parameters) (t ∷ rest) b h = by_open (opens t)
     by_open true = called_text m parameters (arguments_from [] [] 0 1 rest) b (arguments_text rest [] [] 0 1 (All-nil IsText) (All-nil IsTextToken) (All-tail IsTextToken t rest h))
     by_open false = tt
 
-found_text : (test : PlainMacro → Bool) (macros : List PlainMacro) → AreTextMacros macros → IfSome (find test macros) HasTextBody
+found_text : (test : List ℕ → Bool) (macros : MacroMap) → AreTextMacros macros → IfSome (lookup test macros) HasTextBody
 found_text test [] h = tt
-found_text test (m ∷ macros) h = by_test (test m) (found_text test macros (All-tail HasTextBody m macros h))
+found_text test (e ∷ macros) h = by_test (test e.0) (found_text test macros (All-tail HasTextBody e.1 (values_of macros) h))
   where
-    by_test : (b : Bool) → IfSome (find test macros) HasTextBody → IfSome (cond b (Some m) (find test macros)) HasTextBody
-    by_test true k = All-head HasTextBody m macros h
+    by_test : (b : Bool) → IfSome (lookup test macros) HasTextBody → IfSome (cond b (Some e.1) (lookup test macros)) HasTextBody
+    by_test true k = All-head HasTextBody e.1 (values_of macros) h
     by_test false k = k
 
-use_text : (macros : List PlainMacro) (hidden : List (List ℕ)) (t : PlainToken) (rest : List PlainToken) → AreTextMacros macros → IsText rest → UseText (use_of macros hidden t rest)
+use_text : (macros : MacroMap) (hidden : List (List ℕ)) (t : PlainToken) (rest : List PlainToken) → AreTextMacros macros → IsText rest → UseText (use_of macros hidden t rest)
 unfolding use_of find_macro
 use_text macros hidden t rest m h = by_tests (is_name_token t) (is_text (codes "__LINE__") t) (list_any (λ name. bytes_eq name t.text) hidden)
   where
@@ -87,7 +91,7 @@ use_text macros hidden t rest m h = by_tests (is_name_token t) (is_text (codes "
     by_tests : (name line hides : Bool) → UseText (cond name (cond line LineNumber (cond hides Kept (used_macro (find_macro macros t.text) rest))) Kept)
     by_tests true true hides = tt
     by_tests true false true = tt
-    by_tests true false false = by_macro (find_macro macros t.text) (found_text (λ k. bytes_eq k.name t.text) macros m)
+    by_tests true false false = by_macro (find_macro macros t.text) (found_text (is_at (slice_cmp nat_cmp t.text)) macros m)
     by_tests false line hides = tt
 
 -- replacements
@@ -141,7 +145,7 @@ call_text below hidden done t m parameters arguments k d b h =
     by_arguments (Ok lists) l = k (hidden ++ t.text ∷ []) done (substituted parameters lists t.line m.body) d (substituted_text parameters lists t.line m.body l b)
     by_arguments (Err end) l = d
 
-behind_text : (below : Below) (macros : List PlainMacro) (hidden : List (List ℕ)) (n : ℕ) (rest : List PlainToken) (o : Outcome)
+behind_text : (below : Below) (macros : MacroMap) (hidden : List (List ℕ)) (n : ℕ) (rest : List PlainToken) (o : Outcome)
     → ((done : List PlainToken) → IsText done → IsText (list_from below macros hidden done n rest).tokens) → IsText o.tokens → IsText (behind below macros hidden n rest o).tokens
 behind_text below macros hidden n rest o goes h = by_end o.end
   where
@@ -150,7 +154,7 @@ behind_text below macros hidden n rest o goes h = by_end o.end
     by_end (Failed line) = h
     by_end Deeper = h
 
-list_text : (below : Below) (macros : List PlainMacro) (hidden : List (List ℕ)) → KeepsText below → AreTextMacros macros → (list done : List PlainToken) (k : ℕ) → IsText done → IsText list → IsText (list_from below macros hidden done k list).tokens
+list_text : (below : Below) (macros : MacroMap) (hidden : List (List ℕ)) → KeepsText below → AreTextMacros macros → (list done : List PlainToken) (k : ℕ) → IsText done → IsText list → IsText (list_from below macros hidden done k list).tokens
 unfolding list_from
 list_text below macros hidden b m [] done k d h = d
 list_text below macros hidden b m (t ∷ rest) done (suc k) d h = list_text below macros hidden b m rest done k d (All-tail IsTextToken t rest h)
@@ -166,7 +170,7 @@ list_text below macros hidden b m (t ∷ rest) done zero d h =
     by_use goes (Call macro parameters arguments n) y = behind_text below macros hidden n rest (call_outcome below hidden done t macro parameters arguments) (λ x z. goes x n z) (call_text below hidden done t macro parameters arguments b d y.0 y.1)
 
 -- an expanded list is of the tokens of a text, where the list and the macros are
-pub expansion_text : (n : ℕ) (macros : List PlainMacro) (hidden : List (List ℕ)) (done list : List PlainToken) → AreTextMacros macros → IsText done → IsText list → IsText (expanded n macros hidden done list).tokens
+pub expansion_text : (n : ℕ) (macros : MacroMap) (hidden : List (List ℕ)) (done list : List PlainToken) → AreTextMacros macros → IsText done → IsText list → IsText (expanded n macros hidden done list).tokens
 unfolding expanded
 expansion_text zero macros hidden done list m d h = d
 expansion_text (suc n) macros hidden done list m d h = list_text (expanded n macros) macros hidden (λ x y z. expansion_text n macros x y z m) m list done 0 d h

@@ -1,8 +1,9 @@
 -- What the code keeps of an `#if`, as the definitions see it.
 use Rattle.std.specs.Prelude.{ℕ, ℤ, ◌≡◌, ◌≤◌, length, List, Option, Some, None, Vec, codes, if◌then◌else◌}
 use Rattle.std.specs.declared.alloc.Global.{Global}
-use Rattle.glsl_tree.specs.Token.{PlainToken, plain_tokens}
-use Rattle.glsl_tree.specs.declared.token.Token.{Token}
+use Rattle.glsl_tree.specs.Token.{PlainToken}
+use Rattle.glsl_preproc.specs.Views.{plain_pieces}
+use Rattle.glsl_preproc.specs.declared.pieces.Piece.{Piece}
 use Rattle.glsl_preproc.specs.Macros.{is_text}
 use Rattle.glsl_preproc.specs.Values.{negated, complemented, inverted}
 use Rattle.glsl_preproc.specs.Conditions.{Asked, Other, Of, Broken, Parsed, Read, Wrong, TooDeep, same_value, Judged, Yes, No, Fails, Unknown}
@@ -24,9 +25,9 @@ abbrev pub IsAskedWithin : List PlainToken → AskedFound → Type 0
 IsAskedWithin rest (asked.Of name n) = n ≤ length rest
 IsAskedWithin rest _ = Unit {0}
 
-abbrev pub answered_of : Option (Vec Token Global) → Option (List PlainToken)
+abbrev pub answered_of : Option (Vec Piece Global) → Option (List PlainToken)
 answered_of None = None
-answered_of (Some v) = Some (plain_tokens v.items)
+answered_of (Some v) = Some (plain_pieces v.items)
 
 abbrev pub parsed_of : ParsedFound → Parsed
 parsed_of (parsed.Read v n) = Read v n

@@ -4,7 +4,7 @@ use Rattle.glsl_tree.specs.Token.{PlainToken}
 use Rattle.glsl_tree.specs.Spellings.{int_of}
 use Rattle.glsl_tree.specs.declared.token.Class.{Class}
 use Rattle.glsl_tree.specs.declared.token.Class.TheVariants.{Identifier, Keyword, Int}
-use Rattle.glsl_preproc.specs.Macros.{PlainMacro, is_text, is_name_token, is_defined, number_token}
+use Rattle.glsl_preproc.specs.Macros.{MacroMap, is_text, is_name_token, is_defined, number_token}
 use Rattle.glsl_preproc.specs.Replacement.{Outcome, Whole, Failed, Deeper, opens, closes, expanded}
 use Rattle.glsl_preproc.specs.Values.{fitting, applied, negated, complemented, inverted, operator_of, level_of, is_zero}
 use Rattle.glsl_preproc.specs.declared.operators.Operator.{Operator}
@@ -31,7 +31,7 @@ answer_token b = if b then number_token (codes "1") else number_token (codes "0"
 
 -- A list with 1 or 0 for each `defined N` and `defined ( N )`, behind the tokens before it; nothing where a `defined` has
 -- neither form. The first k tokens belong to one already.
-unfoldable pub answered_from : List PlainMacro → List PlainToken → ℕ → List PlainToken → Option (List PlainToken)
+unfoldable pub answered_from : MacroMap → List PlainToken → ℕ → List PlainToken → Option (List PlainToken)
 answered_from macros done k [] = Some done
 answered_from macros done (suc k) (t ∷ rest) = answered_from macros done k rest
 answered_from macros done zero (t ∷ rest) = elim (asked_at t rest) [
@@ -138,10 +138,10 @@ judged_outcome n o = elim o.end [
   | Deeper ↦ Unknown
 ]
 
-abbrev pub judged_answered : ℕ → List PlainMacro → Option (List PlainToken) → Judged
+abbrev pub judged_answered : ℕ → MacroMap → Option (List PlainToken) → Judged
 judged_answered n macros None = Fails
 judged_answered n macros (Some list) = judged_outcome n (expanded n macros [] [] list)
 
 -- `defined` is answered first, then macros are expanded, and then the expression is evaluated
-unfoldable pub condition : ℕ → List PlainMacro → List PlainToken → Judged
+unfoldable pub condition : ℕ → MacroMap → List PlainToken → Judged
 condition n macros list = judged_answered n macros (answered_from macros [] 0 list)

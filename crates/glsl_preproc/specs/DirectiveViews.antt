@@ -1,7 +1,7 @@
 -- What the code keeps of a directive, as the definitions see it.
 use Rattle.std.specs.Prelude.{ℕ, ◌≡◌, List, Option, Some, None, Bool, true, false}
 use Rattle.std.specs.Prelude.{if◌then◌else◌}
-use Rattle.glsl_preproc.specs.Macros.{PlainMacro, same_macro}
+use Rattle.glsl_preproc.specs.Macros.{MacroMap, PlainMacro, same_macro}
 use Rattle.glsl_preproc.specs.declared.directives.Standing.{Standing}
 use Rattle.glsl_preproc.specs.declared.directives.Standing.TheVariants.{New, Same, Other}
 use Rattle.glsl_preproc.specs.declared.directives.Parameters.{Parameters}
@@ -11,7 +11,7 @@ names_of None = None
 names_of (Some p) = Some (p.names, p.count)
 
 -- the macros are those behind the directive where it may be, and it may not where there are none
-abbrev pub Changes : Option (List PlainMacro) → List PlainMacro → Bool → Type 0
+abbrev pub Changes : Option MacroMap → MacroMap → Bool → Type 0
 Changes wanted new true = wanted ≡ Some new
 Changes wanted new false = wanted ≡ None
 

@@ -1,11 +1,11 @@
 -- Directives (GLSL ES 1.00.17 section 3.4).
 use Rattle.std.specs.Prelude.{ℕ, ◌+◌, Bool, true, false, not, ◌&&◌, ◌||◌, if◌then◌else◌, List, [], ◌∷◌, ◌++◌, drop, codes, Option, Some, None}
-use Rattle.std.specs.List.{list_any, filter}
+use Rattle.std.specs.List.{list_any}
 use Rattle.std.specs.Str.{bytes_eq}
 use Rattle.glsl_tree.specs.Token.{PlainToken}
 use Rattle.glsl_tree.specs.declared.token.Class.{Class}
 use Rattle.glsl_tree.specs.declared.token.Class.TheVariants.{Int, Hash, Params}
-use Rattle.glsl_preproc.specs.Macros.{PlainMacro, is_text, is_name_token, is_reserved, is_defined, find_macro, same_macro}
+use Rattle.glsl_preproc.specs.Macros.{MacroMap, PlainMacro, is_text, is_name_token, is_reserved, is_defined, find_macro, with_macro, without_macro, same_macro}
 use Rattle.glsl_preproc.specs.Replacement.{closes, is_comma}
 use Rattle.glsl_preproc.specs.declared.kinds.Kind.{Kind}
 use Rattle.glsl_preproc.specs.declared.kinds.Kind.TheVariants.{Empty, Define, Undef, If, Ifdef, Ifndef, Elif, Else, Endif, Error, Pragma, Extension, Version, Line, Unknown}
@@ -74,25 +74,25 @@ definition_of [] = None
 definition_of (t ∷ rest) = if is_name_token t && not (is_reserved t.text) then macro_of t.text rest else None
 
 -- a macro may be defined again as it is
-abbrev pub defined_again : List PlainMacro → PlainMacro → Option PlainMacro → Option (List PlainMacro)
-defined_again macros m None = Some (macros ++ m ∷ [])
+abbrev pub defined_again : MacroMap → PlainMacro → Option PlainMacro → Option MacroMap
+defined_again macros m None = Some (with_macro macros m)
 defined_again macros m (Some old) = if same_macro old m then Some macros else None
 
-abbrev pub with_macro : List PlainMacro → Option PlainMacro → Option (List PlainMacro)
-with_macro macros None = None
-with_macro macros (Some m) = defined_again macros m (find_macro macros m.name)
+abbrev pub after_definition : MacroMap → Option PlainMacro → Option MacroMap
+after_definition macros None = None
+after_definition macros (Some m) = defined_again macros m (find_macro macros m.name)
 
 -- the macros behind a `#define`, and behind an `#undef`
-unfoldable pub after_define : List PlainMacro → List PlainToken → Option (List PlainMacro)
-after_define macros list = with_macro macros (definition_of list)
+unfoldable pub after_define : MacroMap → List PlainToken → Option MacroMap
+after_define macros list = after_definition macros (definition_of list)
 
-unfoldable pub after_undef : List PlainMacro → List PlainToken → Option (List PlainMacro)
+unfoldable pub after_undef : MacroMap → List PlainToken → Option MacroMap
 after_undef macros (t ∷ []) =
-    if is_name_token t && not (is_reserved t.text) then Some (filter (λ m. not (bytes_eq m.name t.text)) macros) else None
+    if is_name_token t && not (is_reserved t.text) then Some (without_macro macros t.text) else None
 after_undef macros _ = None
 
 -- whether the one name behind an `#ifdef` is defined
-unfoldable pub asked_defined : List PlainMacro → List PlainToken → Option Bool
+unfoldable pub asked_defined : MacroMap → List PlainToken → Option Bool
 asked_defined macros (t ∷ []) = if is_name_token t then Some (is_defined macros t.text) else None
 asked_defined macros _ = None
 

@@ -3,7 +3,7 @@ use Rattle.std.specs.Prelude.{◌≡◌, ◌<◌, ◌≤◌, ℕ, ◌+◌, ◌-�
 use Rattle.glsl_tree.specs.Token.{PlainToken}
 use Rattle.glsl_tree.specs.declared.token.Class.{Class}
 use Rattle.glsl_tree.specs.declared.token.Class.TheVariants.{NewLine}
-use Rattle.glsl_preproc.specs.Macros.{PlainMacro, first_macros}
+use Rattle.glsl_preproc.specs.Macros.{MacroMap, first_macros}
 use Rattle.glsl_preproc.specs.Replacement.{Outcome, End, Whole, Failed, Deeper, ended, expanded}
 use Rattle.glsl_preproc.specs.Conditions.{Judged, Yes, No, Fails, Unknown, condition}
 use Rattle.glsl_preproc.specs.Directives.{kind_of, is_hash_token, after_define, after_undef, asked_defined, is_version, is_extension, are_line_numbers}
@@ -16,7 +16,7 @@ use Rattle.glsl_preproc.specs.declared.kinds.Kind.TheVariants as kind
 -- What is known where a line begins: the macros; the conditionals that are open, the innermost first; how many more are
 -- open within lines that are not read; the text lines since the last directive; the tokens so far; and whether no token has come yet.
 pub record State : Type 0 where
-  pub macros : List PlainMacro
+  pub macros : MacroMap
   pub conditionals : List Conditional
   pub skipped : ℕ
   pub text : List PlainToken
@@ -62,7 +62,7 @@ abbrev pub and_then : Step → (State → Step) → Step
 and_then (Next s) f = f s
 and_then (Stop o) f = Stop o
 
-abbrev pub with_macros : State → ℕ → Option (List PlainMacro) → Step
+abbrev pub with_macros : State → ℕ → Option MacroMap → Step
 with_macros s line None = failing s line
 with_macros s line (Some macros) = Next (record s { macros = macros })
 

@@ -9,7 +9,6 @@ pub mod Directives
 pub mod Expansion
 pub mod Views
 pub mod NamePlaces
-pub mod MacroSlots
 pub mod ConditionViews
 pub mod DirectiveViews
 pub mod ReaderViews

@@ -1,6 +1,9 @@
 -- Macros (GLSL ES 1.00.17 section 3.4).
 use Rattle.std.specs.Prelude.{ℕ, ◌==◌, Bool, true, false, ◌&&◌, ◌||◌, List, [], ◌∷◌, codes, Option, Some, None, is_some}
-use Rattle.std.specs.List.{find}
+use Rattle.std.specs.Map.{lookup, remove_entry}
+use Rattle.std.specs.BTreeMap.{is_at, insert_entry}
+use Rattle.std.specs.Ordering.{nat_cmp}
+use Rattle.std.specs.Cmp.Lexicographic.{slice_cmp}
 use Rattle.std.specs.Str.{bytes_eq}
 use Rattle.glsl_tree.specs.Token.{PlainToken}
 use Rattle.glsl_tree.specs.SourceTokens.{is_word}
@@ -20,10 +23,20 @@ is_text text token = bytes_eq token.text text
 abbrev pub is_name_token : PlainToken → Bool
 is_name_token token = is_word token.class
 
-unfoldable pub find_macro : List PlainMacro → List ℕ → Option PlainMacro
-find_macro macros name = find (λ m. bytes_eq m.name name) macros
+-- the macros that are defined, each under its name, in the order of the names' bytes
+abbrev pub MacroMap : Type 0
+MacroMap = List (List ℕ × PlainMacro)
 
-abbrev pub is_defined : List PlainMacro → List ℕ → Bool
+unfoldable pub find_macro : MacroMap → List ℕ → Option PlainMacro
+find_macro macros name = lookup (is_at (slice_cmp nat_cmp name)) macros
+
+unfoldable pub with_macro : MacroMap → PlainMacro → MacroMap
+with_macro macros m = insert_entry (slice_cmp nat_cmp) macros m.name m
+
+unfoldable pub without_macro : MacroMap → List ℕ → MacroMap
+without_macro macros name = remove_entry (is_at (slice_cmp nat_cmp name)) macros
+
+abbrev pub is_defined : MacroMap → List ℕ → Bool
 is_defined macros name = is_some (find_macro macros name)
 
 -- the names that no directive defines or undefines: those with `__`, and those that begin with `GL_`
@@ -81,9 +94,14 @@ number_token text = record { text = text; class = Int; line = 0 }
 abbrev pub constant_macro : List ℕ → List PlainToken → PlainMacro
 constant_macro name body = record { name = name; parameters = None; body = body }
 
-unfoldable pub first_macros : List PlainMacro
+unfoldable pub first_macros : MacroMap
 first_macros =
-    constant_macro (codes "__LINE__") [] ∷ constant_macro (codes "__FILE__") (number_token (codes "0") ∷ [])
-    ∷ constant_macro (codes "__VERSION__") (number_token (codes "100") ∷ [])
-    ∷ constant_macro (codes "GL_ES") (number_token (codes "1") ∷ [])
-    ∷ constant_macro (codes "GL_FRAGMENT_PRECISION_HIGH") (number_token (codes "1") ∷ []) ∷ []
+    with_macro
+    (with_macro
+    (with_macro
+    (with_macro
+    (with_macro [] (constant_macro (codes "__LINE__") []))
+    (constant_macro (codes "__FILE__") (number_token (codes "0") ∷ [])))
+    (constant_macro (codes "__VERSION__") (number_token (codes "100") ∷ [])))
+    (constant_macro (codes "GL_ES") (number_token (codes "1") ∷ [])))
+    (constant_macro (codes "GL_FRAGMENT_PRECISION_HIGH") (number_token (codes "1") ∷ []))

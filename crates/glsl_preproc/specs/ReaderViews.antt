@@ -3,6 +3,7 @@ use Rattle.std.specs.declared.alloc.Global.{Global}
 use Rattle.glsl_tree.specs.declared.token.Token.{Token}
 use Rattle.std.specs.Prelude.{Vec, ◌≡◌, ◌<◌, ◌≤◌, List, reverse, length, Result, Ok, Err}
 use Rattle.glsl_tree.specs.Token.{PlainToken, plain_tokens}
+use Rattle.glsl_preproc.specs.Views.{plain_pieces}
 use Rattle.glsl_preproc.specs.Replacement.{Outcome, Failed, Whole, ended}
 use Rattle.glsl_preproc.specs.Expansion.{State, Step, Next, Stop, Expansion, IsTooLong}
 use Rattle.glsl_preproc.specs.declared.reader.Reader.{Reader}
@@ -14,8 +15,8 @@ state_of r = record {
   macros = r.macros;
   conditionals = reverse r.conditionals.items;
   skipped = r.skipped;
-  text = plain_tokens r.text.items;
-  tokens = plain_tokens r.tokens.items;
+  text = plain_pieces r.text.items;
+  tokens = r.tokens;
   fresh = r.fresh;
 }
 

@@ -5,7 +5,7 @@ use Rattle.std.specs.Str.{bytes_eq}
 use Rattle.std.specs.Fmt.{decimal}
 use Rattle.glsl_tree.specs.Token.{PlainToken}
 use Rattle.glsl_tree.specs.declared.token.Class.TheVariants.{Int}
-use Rattle.glsl_preproc.specs.Macros.{PlainMacro, is_text, is_name_token, find_macro}
+use Rattle.glsl_preproc.specs.Macros.{MacroMap, PlainMacro, is_text, is_name_token, find_macro}
 
 -- how an expansion ends: whole; at a failure, with its line; or where macros nest deeper than was asked for
 pub data End : Type 0 where
@@ -75,7 +75,7 @@ used_macro None rest = Kept
 used_macro (Some m) rest = used m m.parameters rest
 
 -- a name that is hidden is none of a macro
-unfoldable pub use_of : List PlainMacro → List (List ℕ) → PlainToken → List PlainToken → Use
+unfoldable pub use_of : MacroMap → List (List ℕ) → PlainToken → List PlainToken → Use
 use_of macros hidden t rest =
     if is_name_token t then
     (if is_text (codes "__LINE__") t then LineNumber
@@ -133,7 +133,7 @@ object_outcome below hidden done t m = below (hidden ++ t.text ∷ []) done (at_
 
 -- The expansion of a list, behind the tokens before it, where `below` expands behind some tokens a list with names
 -- hidden. The first k tokens belong to a call already.
-unfoldable pub list_from : (List (List ℕ) → List PlainToken → List PlainToken → Outcome) → List PlainMacro → List (List ℕ)
+unfoldable pub list_from : (List (List ℕ) → List PlainToken → List PlainToken → Outcome) → MacroMap → List (List ℕ)
     → List PlainToken → ℕ → List PlainToken → Outcome
 list_from below macros hidden done k [] = ended done Whole
 list_from below macros hidden done (suc k) (t ∷ rest) = list_from below macros hidden done k rest
@@ -154,6 +154,6 @@ list_from below macros hidden done zero (t ∷ rest) = elim (use_of macros hidde
 ]
 
 -- the expansion of a list behind the tokens before it, where macros nest in at most so many levels
-unfoldable pub expanded : ℕ → List PlainMacro → List (List ℕ) → List PlainToken → List PlainToken → Outcome
+unfoldable pub expanded : ℕ → MacroMap → List (List ℕ) → List PlainToken → List PlainToken → Outcome
 expanded zero macros hidden done list = ended done Deeper
 expanded (suc n) macros hidden done list = list_from (expanded n macros) macros hidden done 0 list

@@ -7,7 +7,6 @@ use crate::directives::asked_defined;
 use crate::errors::Pre;
 use crate::reader::{LEVELS, Reader};
 use glsl_tree::Token;
-use std::alloc::Global;
 
 /// The part that an `#else` begins.
 fn other_part(part: Part) -> Part
@@ -19,7 +18,7 @@ fn other_part(part: Part) -> Part
     }
 }
 
-impl Reader {
+impl<'s> Reader<'s> {
     ghost use Rattle.std.specs.Prelude.{◌≡◌, ◌≤◌, ◌==◌, true, false, length};
     ghost use Rattle.glsl_tree.specs.Token.{plain_tokens};
     ghost use Rattle.glsl_preproc.specs.Conditions.{condition};
@@ -29,9 +28,7 @@ impl Reader {
 
     /// Begins a conditional, whose first part is read or not.
     fn open(&mut self, reads: bool, line: u32) -> Result<(), Pre>
-        requires { length self.old.tokens.items ≤ 131072 }
-        ensures step { Steps (opened (state_of self.old) line reads) (state_of self.new) result }
-        ensures within { length self.new.tokens.items ≤ 131072 }
+        ensures { Steps (opened (state_of self.old) line reads) (state_of self.new) result }
     {
         let part = if reads { Part::Taken } else { Part::Waiting };
         let Ok(()) = self.conditionals.push(Conditional {
@@ -46,13 +43,11 @@ impl Reader {
     }
 
     /// `#if`
-    pub fn open_if(&mut self, alloc: Global, line: u32, list: &[Token]) -> Result<(), Pre>
-        requires { length self.old.tokens.items ≤ 131072 }
-        ensures step { Steps (opened_if (state_of self.old) line
+    pub fn open_if(&mut self, line: u32, list: &'s [Token]) -> Result<(), Pre>
+        ensures { Steps (opened_if (state_of self.old) line
             (condition 1024 (state_of self.old).macros (plain_tokens list.now))) (state_of self.new) result }
-        ensures within { length self.new.tokens.items ≤ 131072 }
     {
-        match condition(alloc, &self.macros, LEVELS, &mut self.work, list) {
+        match condition(&mut self.budget, &self.macros, LEVELS, list) {
             Judged::Yes => self.open(true, line),
             Judged::No => self.open(false, line),
             Judged::Fails => Err(Pre::Directive(line)),
@@ -61,11 +56,9 @@ impl Reader {
     }
 
     /// `#ifdef`, or `#ifndef` where the name is wanted not to be defined.
-    pub fn open_ifdef(&mut self, line: u32, wanted: bool, list: &[Token]) -> Result<(), Pre>
-        requires { length self.old.tokens.items ≤ 131072 }
-        ensures step { Steps (opened_ifdef (state_of self.old) line wanted
+    pub fn open_ifdef(&mut self, line: u32, wanted: bool, list: &'s [Token]) -> Result<(), Pre>
+        ensures { Steps (opened_ifdef (state_of self.old) line wanted
             (asked_defined (state_of self.old).macros (plain_tokens list.now))) (state_of self.new) result }
-        ensures within { length self.new.tokens.items ≤ 131072 }
     {
         match asked_defined(&self.macros, list) {
             None => Err(Pre::Directive(line)),
@@ -74,11 +67,9 @@ impl Reader {
     }
 
     /// `#elif`
-    pub fn elif(&mut self, alloc: Global, line: u32, list: &[Token]) -> Result<(), Pre>
-        requires { length self.old.tokens.items ≤ 131072 }
-        ensures step { Steps (elif_step 1024 (state_of self.old) line (plain_tokens list.now) (state_of self.old).conditionals)
+    pub fn elif(&mut self, line: u32, list: &'s [Token]) -> Result<(), Pre>
+        ensures { Steps (elif_step 1024 (state_of self.old) line (plain_tokens list.now) (state_of self.old).conditionals)
             (state_of self.new) result }
-        ensures within { length self.new.tokens.items ≤ 131072 }
     {
         let Some(c) = self.conditionals.pop() else {
             return Err(Pre::Directive(line));
@@ -87,25 +78,17 @@ impl Reader {
             return Err(Pre::Directive(line));
         }
         match c.part {
-            Part::Waiting => self.elif_judged(alloc, line, list, c),
+            Part::Waiting => self.elif_judged(line, list, c),
             _ => self.put_back(c, Part::Passed, false),
         }
     }
 
     /// `#elif`, where no part was read before.
-    fn elif_judged(
-        &mut self,
-        alloc: Global,
-        line: u32,
-        list: &[Token],
-        c: Conditional,
-    ) -> Result<(), Pre>
-        requires { length self.old.tokens.items ≤ 131072 }
-        ensures step { Steps (elif_judged (state_of self.old) line c (state_of self.old).conditionals
+    fn elif_judged(&mut self, line: u32, list: &'s [Token], c: Conditional) -> Result<(), Pre>
+        ensures { Steps (elif_judged (state_of self.old) line c (state_of self.old).conditionals
             (condition 1024 (state_of self.old).macros (plain_tokens list.now))) (state_of self.new) result }
-        ensures within { length self.new.tokens.items ≤ 131072 }
     {
-        match condition(alloc, &self.macros, LEVELS, &mut self.work, list) {
+        match condition(&mut self.budget, &self.macros, LEVELS, list) {
             Judged::Yes => self.put_back(c, Part::Taken, false),
             Judged::No => self.put_back(c, Part::Waiting, false),
             Judged::Fails => Err(Pre::Directive(line)),
@@ -115,9 +98,7 @@ impl Reader {
 
     /// The innermost conditional goes on with another part.
     fn put_back(&mut self, c: Conditional, part: Part, closing: bool) -> Result<(), Pre>
-        requires { length self.old.tokens.items ≤ 131072 }
-        ensures step { Steps (with_part (state_of self.old) c (state_of self.old).conditionals part closing) (state_of self.new) result }
-        ensures within { length self.new.tokens.items ≤ 131072 }
+        ensures { Steps (with_part (state_of self.old) c (state_of self.old).conditionals part closing) (state_of self.new) result }
     {
         let Ok(()) = self.conditionals.push(Conditional {
             part,
@@ -131,11 +112,9 @@ impl Reader {
     }
 
     /// `#else`
-    pub fn otherwise(&mut self, line: u32, list: &[Token]) -> Result<(), Pre>
-        requires { length self.old.tokens.items ≤ 131072 }
-        ensures step { Steps (else_step (state_of self.old) line (plain_tokens list.now) (state_of self.old).conditionals)
+    pub fn otherwise(&mut self, line: u32, list: &'s [Token]) -> Result<(), Pre>
+        ensures { Steps (else_step (state_of self.old) line (plain_tokens list.now) (state_of self.old).conditionals)
             (state_of self.new) result }
-        ensures within { length self.new.tokens.items ≤ 131072 }
     {
         if !list.is_empty() {
             return Err(Pre::Directive(line));
@@ -150,11 +129,9 @@ impl Reader {
     }
 
     /// `#endif`
-    pub fn endif(&mut self, line: u32, list: &[Token]) -> Result<(), Pre>
-        requires { length self.old.tokens.items ≤ 131072 }
-        ensures step { Steps (endif_step (state_of self.old) line (plain_tokens list.now) (state_of self.old).conditionals)
+    pub fn endif(&mut self, line: u32, list: &'s [Token]) -> Result<(), Pre>
+        ensures { Steps (endif_step (state_of self.old) line (plain_tokens list.now) (state_of self.old).conditionals)
             (state_of self.new) result }
-        ensures within { length self.new.tokens.items ≤ 131072 }
     {
         if !list.is_empty() {
             return Err(Pre::Directive(line));

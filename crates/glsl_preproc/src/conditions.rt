@@ -1,21 +1,19 @@
-ghost use Rattle.std.specs.Prelude.{◌≡◌, ◌≤◌, ◌<◌, ◌+◌, ◌^◌, length};
+ghost use Rattle.std.specs.Prelude.{◌≡◌, ◌≤◌, ◌<◌, ◌+◌, ◌-◌, ◌^◌, length};
 ghost use Rattle.glsl_tree.specs.Token.{plain, plain_tokens};
 ghost use Rattle.glsl_preproc.specs.Values.{operator_of};
-ghost use Rattle.glsl_preproc.specs.Conditions.{primary_of, in_brackets, behind_sign, at_level, expression_at, operand_within, condition, judged};
+ghost use Rattle.glsl_preproc.specs.Conditions.{primary_of, in_brackets, behind_sign, at_level, chain_behind, expression_at, operand_within, condition, judged};
 ghost use Rattle.glsl_preproc.specs.ConditionViews.{signed, sign_of, parsed_of, IsParsedWithin, judged_of, IsJudged};
 
+use crate::budget::Budget;
 use crate::defined::answered;
 use crate::errors::Pre;
+use crate::expander::expanded;
 use crate::macro_table::MacroTable;
-use crate::names::Names;
 use crate::numbers::int_value;
 use crate::operators::Operator;
-use crate::replacement::expand_list;
 use crate::tokens::{closes, is_text, opens};
 use crate::values::{applied, complemented, inverted, level_of, negated, operator_of};
-use crate::work::WORK;
 use glsl_tree::{Class, Token};
-use std::alloc::Global;
 
 /// What is read at the front of a list.
 #[derive(Clone, Copy, Debug)]
@@ -146,17 +144,17 @@ fn operator_at(level: u32, token: &Token) -> Option<Operator>
     }
 }
 
-/// An expression of a level, where brackets and signs nest in at most so many levels.
+/// Operands joined from the left by the operators of a level, behind what is read at the front of a list.
 #[cycle(expression)]
-fn expression(levels: u32, level: u32, list: &[Token]) -> Parsed
-    requires { level ≤ 10 }
-    ensures parsed { parsed_of result ≡ expression_at (operand_within levels) level (plain_tokens list.now) }
+fn chain(levels: u32, level: u32, list: &[Token], first: Parsed) -> Parsed
+    requires some { 0 < level }
+    requires most { level ≤ 10 }
+    requires within { IsParsedWithin (length list.now) first }
+    ensures parsed { parsed_of result ≡ chain_behind (expression_at (operand_within levels) (level - 1)) level
+        (plain_tokens list.now) (parsed_of first) }
     ensures within { IsParsedWithin (length list.now) result }
 {
-    if level == 0 {
-        return operand(levels, list);
-    }
-    let (mut value, mut count) = match expression(levels, level - 1, list) {
+    let (mut value, mut count) = match first {
         Parsed::Read(value, count) => (value, count),
         Parsed::Wrong => return Parsed::Wrong,
         Parsed::TooDeep => return Parsed::TooDeep,
@@ -179,6 +177,23 @@ fn expression(levels: u32, level: u32, list: &[Token]) -> Parsed
         }
     }
     Parsed::Read(value, count)
+}
+
+/// An expression of a level, where brackets and signs nest in at most so many levels. The first operand is read once, and
+/// not by a call for each level, so that brackets in one another take little stack.
+#[cycle(expression)]
+fn expression(levels: u32, level: u32, list: &[Token]) -> Parsed
+    requires { level ≤ 10 }
+    ensures parsed { parsed_of result ≡ expression_at (operand_within levels) level (plain_tokens list.now) }
+    ensures within { IsParsedWithin (length list.now) result }
+{
+    let mut parsed = operand(levels, list);
+    let mut done = 0;
+    while done < level {
+        done += 1;
+        parsed = chain(levels, done, list, parsed);
+    }
+    parsed
 }
 
 /// What an `#if` answers.
@@ -209,34 +224,22 @@ fn verdict_of(list: &[Token], parsed: Parsed) -> Judged
 
 /// What an `#if` with this list answers, where macro calls, brackets and signs nest in at most so many levels.
 #[tactic(auto, unfolding(crate::specs::Conditions::condition))]
-pub fn condition(
-    alloc: Global,
-    macros: &MacroTable,
+pub fn condition<'s>(
+    budget: &mut Budget,
+    macros: &MacroTable<'s>,
     levels: u32,
-    work: &mut u32,
-    list: &[Token],
+    list: &'s [Token],
 ) -> Judged
     ensures { IsJudged (condition levels macros.now (plain_tokens list.now)) result }
 {
-    let Ok(found) = answered(alloc, macros, list) else {
+    let Ok(found) = answered(budget.alloc, macros, list) else {
         return Judged::Unknown;
     };
     let Some(resolved) = found else {
         return Judged::Fails;
     };
-    let mut hidden = Names::new(alloc);
-    let mut tokens = Vec::new(alloc);
-    match expand_list(
-        alloc,
-        macros,
-        levels,
-        &mut hidden,
-        work,
-        resolved.as_slice(),
-        &mut tokens,
-        WORK as usize,
-    ) {
-        Ok(()) => verdict_of(tokens.as_slice(), expression(levels, 10, tokens.as_slice())),
+    match expanded(budget, macros, levels, resolved.as_slice()) {
+        Ok(tokens) => verdict_of(tokens.as_slice(), expression(levels, 10, tokens.as_slice())),
         Err(Pre::Directive(_)) => Judged::Fails,
         Err(_) => Judged::Unknown,
     }

@@ -2,9 +2,11 @@ ghost use Rattle.std.specs.Prelude.{◌≡◌, [], ◌∷◌, ◌++◌, IfOk, On
 ghost use Rattle.glsl_tree.specs.Token.{plain, plain_tokens};
 ghost use Rattle.glsl_preproc.specs.Conditions.{asked_at, answer_token, answered_from};
 ghost use Rattle.glsl_preproc.specs.ConditionViews.{answered_of, asked_of, IsAskedWithin};
+ghost use Rattle.glsl_preproc.specs.Views.{plain_piece};
 
 use crate::macro_table::MacroTable;
-use crate::tokens::{closes, is_name, is_text, number_token, opens, push_copy};
+use crate::pieces::{Piece, number_at, piece_at, push_piece};
+use crate::tokens::{closes, is_name, is_text, opens};
 use glsl_tree::Token;
 use std::alloc::{AllocError, Global};
 
@@ -41,25 +43,23 @@ fn asked_at<'a>(token: &Token, rest: &'a [Token]) -> Asked<'a>
     }
 }
 
-/// Adds 1 or 0.
-fn push_answer(alloc: Global, out: &mut Vec<Token>, answer: bool) -> Result<(), AllocError>
-    ensures { OnOk result (plain_tokens out.new.items ≡ plain_tokens out.old.items ++ answer_token answer ∷ []) }
+/// 1 or 0, which stands on no line.
+fn answer_piece<'s>(answer: bool) -> Piece<'s>
+    ensures { plain_piece result ≡ answer_token answer }
 {
-    let number = if answer {
-        number_token(alloc, b"1")?
+    if answer {
+        number_at(1, 0)
     } else {
-        number_token(alloc, b"0")?
-    };
-    out.push(number)?;
-    Ok(())
+        number_at(0, 0)
+    }
 }
 
 /// The list with 1 or 0 for each `defined`, where each has a name.
-pub fn answered(
+pub fn answered<'s>(
     alloc: Global,
     macros: &MacroTable,
-    list: &[Token],
-) -> Result<Option<Vec<Token>>, AllocError>
+    list: &'s [Token],
+) -> Result<Option<Vec<Piece<'s>>>, AllocError>
     ensures { IfOk result (λ found. answered_of found ≡ answered_from macros.now [] 0 (plain_tokens list.now)) }
 {
     let mut out = Vec::new(alloc);
@@ -69,11 +69,11 @@ pub fn answered(
         let tail = rest.split_at(1).1;
         match asked_at(token, tail) {
             Asked::Other => {
-                push_copy(alloc, &mut out, token)?;
+                push_piece(&mut out, &piece_at(token, token.line))?;
                 rest = tail;
             }
             Asked::Of(name, count) => {
-                push_answer(alloc, &mut out, macros.is_defined(name))?;
+                push_piece(&mut out, &answer_piece(macros.is_defined(name)))?;
                 rest = tail.split_at(count).1;
             }
             Asked::Broken => return Ok(None),

@@ -1,15 +1,13 @@
 use crate::directives::{are_line_numbers, define, is_extension, is_version, kind_of, undefine};
 use crate::errors::Pre;
+use crate::expander::expanded;
 use crate::hashes::{behind_name, failing_hash};
 use crate::kinds::Kind;
-use crate::names::Names;
+use crate::pieces::append_tokens;
 use crate::reader::{LEVELS, Reader};
-use crate::replacement::expand_list;
-use crate::work::WORK;
 use glsl_tree::Token;
-use std::alloc::Global;
 
-impl Reader {
+impl<'s> Reader<'s> {
     ghost use Rattle.std.specs.Prelude.{◌≤◌, ◌==◌, true, false, [], length};
     ghost use Rattle.glsl_tree.specs.Token.{plain_tokens};
     ghost use Rattle.glsl_preproc.specs.Directives.{after_define};
@@ -18,13 +16,11 @@ impl Reader {
     ghost use Rattle.glsl_preproc.specs.ReaderViews.{state_of, Steps};
 
     /// `#define`
-    fn define(&mut self, alloc: Global, line: u32, list: &[Token]) -> Result<(), Pre>
-        requires { length self.old.tokens.items ≤ 131072 }
-        ensures step { Steps (with_macros (state_of self.old) line
+    fn define(&mut self, line: u32, list: &'s [Token]) -> Result<(), Pre>
+        ensures { Steps (with_macros (state_of self.old) line
             (after_define (state_of self.old).macros (plain_tokens list.now))) (state_of self.new) result }
-        ensures within { length self.new.tokens.items ≤ 131072 }
     {
-        match define(alloc, &mut self.macros, list) {
+        match define(self.budget.alloc, &mut self.macros, list) {
             Ok(true) => Ok(()),
             Ok(false) => Err(Pre::Directive(line)),
             Err(_) => Err(Pre::Memory),
@@ -32,26 +28,17 @@ impl Reader {
     }
 
     /// `#line`
-    fn line(&mut self, alloc: Global, line: u32, list: &[Token]) -> Result<(), Pre>
-        requires { length self.old.tokens.items ≤ 131072 }
-        ensures step { Steps (line_step (state_of self.old) line
+    fn line(&mut self, line: u32, list: &'s [Token]) -> Result<(), Pre>
+        ensures { Steps (line_step (state_of self.old) line
             (expanded 1024 (state_of self.old).macros [] [] (plain_tokens list.now))) (state_of self.new) result }
-        ensures within { length self.new.tokens.items ≤ 131072 }
     {
-        let mut hidden = Names::new(alloc);
-        let mut tokens = Vec::new(alloc);
-        match expand_list(
-            alloc,
-            &self.macros,
-            LEVELS,
-            &mut hidden,
-            &mut self.work,
-            list,
-            &mut tokens,
-            WORK as usize,
-        ) {
-            Ok(()) if are_line_numbers(tokens.as_slice()) => Ok(()),
-            Ok(()) => Err(Pre::Directive(line)),
+        let mut pieces = Vec::new(self.budget.alloc);
+        let Ok(()) = append_tokens(&mut pieces, list) else {
+            return Err(Pre::Memory);
+        };
+        match expanded(&mut self.budget, &self.macros, LEVELS, pieces.as_slice()) {
+            Ok(tokens) if are_line_numbers(tokens.as_slice()) => Ok(()),
+            Ok(_) => Err(Pre::Directive(line)),
             Err(Pre::Directive(_)) => Err(Pre::Directive(line)),
             Err(_) => Err(Pre::Memory),
         }
@@ -59,17 +46,8 @@ impl Reader {
 
     /// A directive of a kind, of a line, with the tokens behind its name.
     #[tactic(auto, unfolding(crate::specs::Expansion::directive_step))]
-    fn act(
-        &mut self,
-        alloc: Global,
-        line: u32,
-        kind: Kind,
-        list: &[Token],
-        fresh: bool,
-    ) -> Result<(), Pre>
-        requires { length self.old.tokens.items ≤ 131072 }
-        ensures step { Steps (directive_step 1024 (state_of self.old) line kind (plain_tokens list.now) fresh) (state_of self.new) result }
-        ensures within { length self.new.tokens.items ≤ 131072 }
+    fn act(&mut self, line: u32, kind: Kind, list: &'s [Token], fresh: bool) -> Result<(), Pre>
+        ensures { Steps (directive_step 1024 (state_of self.old) line kind (plain_tokens list.now) fresh) (state_of self.new) result }
     {
         let holds = match kind {
             Kind::Empty | Kind::Pragma => true,
@@ -77,14 +55,14 @@ impl Reader {
             Kind::Extension => is_extension(list),
             Kind::Version => fresh && is_version(list),
             Kind::Undef => undefine(&mut self.macros, list),
-            Kind::Define => return self.define(alloc, line, list),
-            Kind::If => return self.open_if(alloc, line, list),
+            Kind::Define => return self.define(line, list),
+            Kind::If => return self.open_if(line, list),
             Kind::Ifdef => return self.open_ifdef(line, true, list),
             Kind::Ifndef => return self.open_ifdef(line, false, list),
-            Kind::Elif => return self.elif(alloc, line, list),
+            Kind::Elif => return self.elif(line, list),
             Kind::Else => return self.otherwise(line, list),
             Kind::Endif => return self.endif(line, list),
-            Kind::Line => return self.line(alloc, line, list),
+            Kind::Line => return self.line(line, list),
         };
         if holds {
             Ok(())
@@ -95,29 +73,19 @@ impl Reader {
 
     /// A directive with the tokens behind its `#`. One more `#` among them fails first, but in a `#pragma`.
     #[tactic(auto, unfolding(crate::specs::Expansion::directive))]
-    pub fn directive(
-        &mut self,
-        alloc: Global,
-        line: u32,
-        list: &[Token],
-        fresh: bool,
-    ) -> Result<(), Pre>
-        requires { length self.old.tokens.items ≤ 131072 }
-        ensures step { Steps (directive 1024 (state_of self.old) line (plain_tokens list.now) fresh) (state_of self.new) result }
-        ensures within { length self.new.tokens.items ≤ 131072 }
+    pub fn directive(&mut self, line: u32, list: &'s [Token], fresh: bool) -> Result<(), Pre>
+        ensures { Steps (directive 1024 (state_of self.old) line (plain_tokens list.now) fresh) (state_of self.new) result }
     {
         let kind = kind_of(list);
         match failing_hash(kind, list) {
             Some(at) => Err(Pre::Directive(at)),
-            None => self.act(alloc, line, kind, behind_name(list), fresh),
+            None => self.act(line, kind, behind_name(list), fresh),
         }
     }
 
     /// A directive within lines that are not read, in a conditional that stands in them.
     fn skip_inner(&mut self, kind: Kind) -> Result<(), Pre>
-        requires { length self.old.tokens.items ≤ 131072 }
-        ensures step { Steps (skipping_inner (state_of self.old) kind) (state_of self.new) result }
-        ensures within { length self.new.tokens.items ≤ 131072 }
+        ensures { Steps (skipping_inner (state_of self.old) kind) (state_of self.new) result }
     {
         match kind {
             Kind::If | Kind::Ifdef | Kind::Ifndef => {
@@ -133,36 +101,26 @@ impl Reader {
     }
 
     /// A directive within lines that are not read, in the conditional that skips them.
-    fn skip_outer(
-        &mut self,
-        alloc: Global,
-        line: u32,
-        list: &[Token],
-        kind: Kind,
-    ) -> Result<(), Pre>
-        requires { length self.old.tokens.items ≤ 131072 }
-        ensures step { Steps (skipping_outer 1024 (state_of self.old) line (plain_tokens list.now) kind) (state_of self.new) result }
-        ensures within { length self.new.tokens.items ≤ 131072 }
+    fn skip_outer(&mut self, line: u32, list: &'s [Token], kind: Kind) -> Result<(), Pre>
+        ensures { Steps (skipping_outer 1024 (state_of self.old) line (plain_tokens list.now) kind) (state_of self.new) result }
     {
         match kind {
             Kind::If | Kind::Ifdef | Kind::Ifndef => {
                 self.skipped = 1;
                 Ok(())
             }
-            Kind::Elif | Kind::Else | Kind::Endif => self.directive(alloc, line, list, false),
+            Kind::Elif | Kind::Else | Kind::Endif => self.directive(line, list, false),
             _ => Ok(()),
         }
     }
 
     /// A directive within lines that are not read.
-    pub fn skip(&mut self, alloc: Global, line: u32, list: &[Token]) -> Result<(), Pre>
-        requires { length self.old.tokens.items ≤ 131072 }
-        ensures step { Steps (skipping 1024 (state_of self.old) line (plain_tokens list.now)) (state_of self.new) result }
-        ensures within { length self.new.tokens.items ≤ 131072 }
+    pub fn skip(&mut self, line: u32, list: &'s [Token]) -> Result<(), Pre>
+        ensures { Steps (skipping 1024 (state_of self.old) line (plain_tokens list.now)) (state_of self.new) result }
     {
         let kind = kind_of(list);
         if self.skipped == 0 {
-            self.skip_outer(alloc, line, list, kind)
+            self.skip_outer(line, list, kind)
         } else {
             self.skip_inner(kind)
         }

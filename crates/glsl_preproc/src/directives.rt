@@ -12,7 +12,7 @@ use crate::kinds::Kind;
 use crate::macro_table::{MacroTable, is_reserved, same_macro};
 use crate::macros::Macro;
 use crate::names::Names;
-use crate::tokens::{closes, copy_of, is_comma, is_int, is_name, is_params, is_text};
+use crate::tokens::{closes, is_comma, is_int, is_name, is_params, is_text};
 use glsl_tree::Token;
 use std::alloc::{AllocError, Global};
 
@@ -123,45 +123,35 @@ fn parameters_at(alloc: Global, list: &[Token]) -> Result<Option<Parameters>, Al
     }
 }
 
-/// Copies of tokens.
-fn copies(alloc: Global, list: &[Token]) -> Result<Vec<Token>, AllocError>
-    ensures { IfOk result (λ v. plain_tokens v.items ≡ plain_tokens list.now) }
-{
-    let mut out = Vec::new(alloc);
-    for token in list {
-        out.push(copy_of(alloc, token)?)?;
-    }
-    Ok(out)
-}
-
 /// The macro of a name with the tokens behind it.
-fn macro_of(alloc: Global, name: &[u8], rest: &[Token]) -> Result<Option<Macro>, AllocError>
+fn macro_of<'s>(
+    alloc: Global,
+    name: &'s [u8],
+    rest: &'s [Token],
+) -> Result<Option<Macro<'s>>, AllocError>
     ensures { IfOk result (λ found. option_map plain_macro found ≡ macro_of name.now (plain_tokens rest.now)) }
 {
-    let name = Vec::from_slice(alloc, name)?;
-    if !rest.is_empty() && is_params(&rest[0]) {
-        let tail = rest.split_at(1).1;
-        let Some(parameters) = parameters_at(alloc, tail)? else {
-            return Ok(None);
-        };
-        let body = copies(alloc, tail.split_at(parameters.count).1)?;
+    if rest.is_empty() || !is_params(&rest[0]) {
         return Ok(Some(Macro {
             name,
-            parameters: Some(parameters.names),
-            body,
+            parameters: None,
+            body: rest,
         }));
     }
-    let body = copies(alloc, rest)?;
+    let tail = rest.split_at(1).1;
+    let Some(parameters) = parameters_at(alloc, tail)? else {
+        return Ok(None);
+    };
     Ok(Some(Macro {
         name,
-        parameters: None,
-        body,
+        parameters: Some(parameters.names),
+        body: tail.split_at(parameters.count).1,
     }))
 }
 
 /// The macro that stands behind `#define`.
 #[tactic(auto, unfolding(crate::specs::Directives::definition_of))]
-fn definition_of(alloc: Global, list: &[Token]) -> Result<Option<Macro>, AllocError>
+fn definition_of<'s>(alloc: Global, list: &'s [Token]) -> Result<Option<Macro<'s>>, AllocError>
     ensures { IfOk result (λ found. option_map plain_macro found ≡ definition_of (plain_tokens list.now)) }
 {
     if list.is_empty() || !is_name(&list[0]) || is_reserved(list[0].text.as_slice()) {
@@ -182,9 +172,9 @@ pub enum Standing {
 
 /// What is known of the macro.
 fn standing_of(macros: &MacroTable, m: &Macro) -> Standing
-    ensures { result ≡ standing (plain_macro m.now) (find_macro macros.now m.now.name.items) }
+    ensures { result ≡ standing (plain_macro m.now) (find_macro macros.now m.now.name.now) }
 {
-    match macros.find(m.name.as_slice()) {
+    match macros.find(m.name) {
         None => Standing::New,
         Some(old) => {
             if same_macro(old, m) {
@@ -198,7 +188,11 @@ fn standing_of(macros: &MacroTable, m: &Macro) -> Standing
 
 /// Does what a `#define` says, and answers whether it may.
 #[tactic(auto, unfolding(crate::specs::Directives::after_define))]
-pub fn define(alloc: Global, macros: &mut MacroTable, list: &[Token]) -> Result<bool, AllocError>
+pub fn define<'s>(
+    alloc: Global,
+    macros: &mut MacroTable<'s>,
+    list: &'s [Token],
+) -> Result<bool, AllocError>
     ensures { IfOk result (λ done. Changes (after_define macros.old (plain_tokens list.now)) macros.new done) }
 {
     let Some(m) = definition_of(alloc, list)? else {
@@ -206,7 +200,7 @@ pub fn define(alloc: Global, macros: &mut MacroTable, list: &[Token]) -> Result<
     };
     match standing_of(macros, &m) {
         Standing::New => {
-            macros.add(alloc, m)?;
+            macros.define(alloc, m)?;
             Ok(true)
         }
         Standing::Same => Ok(true),

@@ -1,11 +1,10 @@
-ghost use Rattle.std.specs.Prelude.{◌≡◌, ◌++◌, OnOk};
+ghost use Rattle.std.specs.Prelude.{◌≡◌};
 ghost use Rattle.glsl_tree.specs.Token.{plain_tokens};
 ghost use Rattle.glsl_preproc.specs.Expansion.{stray_hash, failing_hash, behind_name, before_hash};
 
 use crate::kinds::Kind;
-use crate::tokens::{is_hash, push_copy};
+use crate::tokens::is_hash;
 use glsl_tree::Token;
-use std::alloc::{AllocError, Global};
 
 /// The line of the first `#` of a list.
 pub fn stray_hash(list: &[Token]) -> Option<u32>
@@ -42,22 +41,16 @@ pub fn behind_name(list: &[Token]) -> &[Token]
     }
 }
 
-/// Adds copies of the tokens before the first `#`.
-pub fn append_before_hash(
-    alloc: Global,
-    out: &mut Vec<Token>,
-    list: &[Token],
-) -> Result<(), AllocError>
-    ensures { OnOk result (plain_tokens out.new.items ≡ plain_tokens out.old.items ++ before_hash (plain_tokens list.now)) }
+/// The tokens before the first `#`.
+pub fn before_hash(list: &[Token]) -> &[Token]
+    ensures { plain_tokens result.now ≡ before_hash (plain_tokens list.now) }
 {
     let mut rest = list;
     while !rest.is_empty() {
-        let token = &rest[0];
-        if is_hash(token) {
-            return Ok(());
+        if is_hash(&rest[0]) {
+            return list.split_at(list.len() - rest.len()).0;
         }
-        push_copy(alloc, out, token)?;
         rest = rest.split_at(1).1;
     }
-    Ok(())
+    list
 }

@@ -6,6 +6,7 @@
 #![tactic(auto)]
 
 mod brackets;
+mod budget;
 mod calls;
 mod conditional_steps;
 mod conditionals;
@@ -14,6 +15,7 @@ mod defined;
 mod directive_steps;
 mod directives;
 mod errors;
+mod expander;
 mod hashes;
 mod kinds;
 mod macro_table;
@@ -21,13 +23,13 @@ mod macros;
 mod names;
 mod numbers;
 mod operators;
+mod output;
 mod parameters;
+mod pieces;
 mod reader;
-mod replacement;
 mod run;
 mod tokens;
 mod values;
-mod work;
 
 pub use errors::Pre;
 pub use run::expand;

@@ -1,9 +1,8 @@
-ghost use Rattle.std.specs.Prelude.{◌≡◌, [], ◌∷◌, IfOk, OnOk, None, not, ◌++◌};
-ghost use Rattle.std.specs.List.{filter};
+ghost use Rattle.std.specs.Prelude.{◌≡◌, [], ◌∷◌, IfOk, OnOk, None, not, ◌++◌, codes};
 ghost use Rattle.std.specs.Option.{option_map};
 ghost use Rattle.std.specs.Str.{bytes_eq};
 ghost use Rattle.glsl_tree.specs.Token.{plain, plain_tokens};
-ghost use Rattle.glsl_preproc.specs.Macros.{find_macro, is_defined, has_double_underscore, begins_with_gl, is_reserved, same_token, same_body, same_names, same_parameters, same_macro, first_macros, constant_macro, number_token};
+ghost use Rattle.glsl_preproc.specs.Macros.{find_macro, with_macro, without_macro, is_defined, has_double_underscore, begins_with_gl, is_reserved, same_token, same_body, same_names, same_parameters, same_macro, first_macros, constant_macro, number_token};
 ghost use Rattle.glsl_preproc.specs.Views.{plain_macro, texts};
 
 use crate::macros::Macro;
@@ -13,50 +12,42 @@ use glsl_tree::Token;
 use std::alloc::{AllocError, Global};
 use std::collections::BTreeMap;
 use std::marker::Model;
+use std::slice::from_ref;
 
-/// The macros that are defined, in the order in which they were, and found by their names. A look-up, a new macro and one
-/// that is taken away take steps by the logarithm of the count of macros, and not by the count.
+/// The macros that are defined, by their names. A look-up, a new macro and one that is taken away take steps by the
+/// logarithm of the count of macros.
 #[derive(Drop)]
-pub struct MacroTable {
-    /// The macros. Where one was taken away, its place stays empty, so that the others keep theirs.
-    slots: Vec<Option<Macro>>,
-    /// The place of each macro that is defined, by name.
-    places: BTreeMap<Vec<u8>, usize>,
+pub struct MacroTable<'s> {
+    /// The macros.
+    macros: BTreeMap<Vec<u8>, Macro<'s>>,
 }
 
-impl Model for MacroTable {
-    ghost use Rattle.std.specs.Prelude.{List};
-    ghost use Rattle.glsl_preproc.specs.Macros.{PlainMacro};
-    ghost use Rattle.glsl_preproc.specs.NamePlaces.{place_of};
-    ghost use Rattle.glsl_preproc.specs.MacroSlots.{live, IsIndexed};
+impl<'s> Model for MacroTable<'s> {
+    ghost use Rattle.std.specs.Prelude.{map};
+    ghost use Rattle.glsl_preproc.specs.Macros.{MacroMap};
+    ghost use Rattle.glsl_preproc.specs.Views.{plain_entry};
 
-    ghost Value = { List PlainMacro };
+    ghost Value = { MacroMap };
 
-    ghost view = { λ t. live t.slots.items };
-
-    ghost invariant = { λ t. IsIndexed t.slots.items (place_of t.places) };
+    ghost view = { λ t. map plain_entry t.macros.entries };
 }
 
 #[tactic(auto)]
-impl MacroTable {
+impl<'s> MacroTable<'s> {
     /// No macro at all.
     pub fn new(alloc: Global) -> Self
         ensures { result ≡ [] }
     {
         MacroTable {
-            slots: Vec::new(alloc),
-            places: BTreeMap::new(alloc),
+            macros: BTreeMap::new(alloc),
         }
     }
 
     /// The macro of a name.
-    pub fn find(&self, name: &[u8]) -> Option<&Macro>
+    pub fn find(&self, name: &[u8]) -> Option<&Macro<'s>>
         ensures { option_map (λ m. plain_macro m.now) result ≡ find_macro self.now name.now }
     {
-        match self.places.get(name) {
-            None => None,
-            Some(place) => self.slots[*place].as_ref(),
-        }
+        self.macros.get(name)
     }
 
     /// Whether a macro has the name.
@@ -66,30 +57,22 @@ impl MacroTable {
         self.find(name).is_some()
     }
 
-    /// Adds a macro of a name that none has.
-    pub fn add(&mut self, alloc: Global, m: Macro) -> Result<(), AllocError>
-        requires { find_macro self.old m.name.items ≡ None }
-        ensures { OnOk result (self.new ≡ self.old ++ plain_macro m ∷ []) }
+    /// Defines a macro, in the place of one of the same name.
+    pub fn define(&mut self, alloc: Global, m: Macro<'s>) -> Result<(), AllocError>
+        ensures { OnOk result (self.new ≡ with_macro self.old (plain_macro m.entry)) }
     {
-        let name = Vec::from_slice(alloc, m.name.as_slice())?;
-        let place = self.slots.len();
-        self.slots.push(Some(m))?;
-        match self.places.insert(name, place) {
-            Ok(_) => Ok(()),
-            Err(_) => {
-                let _ = self.slots.pop();
-                Err(AllocError)
-            }
-        }
+        let name = Vec::from_slice(alloc, m.name)?;
+        let Ok(_old) = self.macros.insert(name, m) else {
+            return Err(AllocError);
+        };
+        Ok(())
     }
 
     /// Takes away the macro of a name, if there is one.
     pub fn remove(&mut self, name: &[u8])
-        ensures { self.new ≡ filter (λ m. not (bytes_eq m.name name.now)) self.old }
+        ensures { self.new ≡ without_macro self.old name.now }
     {
-        if let Some(place) = self.places.remove(name) {
-            self.slots[place] = None;
-        }
+        let _ = self.macros.remove(name);
     }
 }
 
@@ -183,42 +166,71 @@ fn same_parameters(a: &Option<Names>, b: &Option<Names>) -> bool
 pub fn same_macro(a: &Macro, b: &Macro) -> bool
     ensures { result ≡ same_macro (plain_macro a.now) (plain_macro b.now) }
 {
-    same_parameters(&a.parameters, &b.parameters) && same_body(a.body.as_slice(), b.body.as_slice())
+    same_parameters(&a.parameters, &b.parameters) && same_body(a.body, b.body)
 }
 
-/// A macro without parameters whose replacement is one number, or nothing.
-fn constant_macro(alloc: Global, name: &[u8], number: &[u8]) -> Result<Macro, AllocError>
-    ensures { IfOk result (λ m. plain_macro m ≡ constant_macro name.now (number_token number.now ∷ [])) }
+/// A macro without parameters whose replacement is one number.
+fn constant_macro<'s>(name: &'s [u8], number: &'s Token) -> Macro<'s>
+    ensures { plain_macro result ≡ constant_macro name.now (plain number.now ∷ []) }
 {
-    let name = Vec::from_slice(alloc, name)?;
-    let mut body = Vec::new(alloc);
-    body.push(number_token(alloc, number)?)?;
-    Ok(Macro {
+    Macro {
         name,
         parameters: None,
-        body,
-    })
+        body: from_ref(number),
+    }
+}
+
+/// The numbers that macros stand for before the first directive.
+#[derive(Drop)]
+pub struct Numbers {
+    /// Of `__FILE__`.
+    pub zero: Token,
+    /// Of `GL_ES` and `GL_FRAGMENT_PRECISION_HIGH`.
+    pub one: Token,
+    /// Of `__VERSION__`.
+    pub version: Token,
+}
+
+impl Numbers {
+    ghost use Rattle.std.specs.Prelude.{◌≡◌, IfOk, codes};
+    ghost use Rattle.glsl_tree.specs.Token.{plain};
+    ghost use Rattle.glsl_preproc.specs.Macros.{number_token};
+
+    /// The numbers, as tokens.
+    pub fn new(alloc: Global) -> Result<Self, AllocError>
+        ensures zero { IfOk result (λ n. plain n.zero ≡ number_token (codes "0")) }
+        ensures one { IfOk result (λ n. plain n.one ≡ number_token (codes "1")) }
+        ensures version { IfOk result (λ n. plain n.version ≡ number_token (codes "100")) }
+    {
+        Ok(Numbers {
+            zero: number_token(alloc, b"0")?,
+            one: number_token(alloc, b"1")?,
+            version: number_token(alloc, b"100")?,
+        })
+    }
 }
 
 /// The macros before the first directive.
 #[tactic(auto, unfolding(crate::specs::Macros::first_macros))]
-pub fn first_macros(alloc: Global) -> Result<MacroTable, AllocError>
+pub fn first_macros<'s>(alloc: Global, numbers: &'s Numbers) -> Result<MacroTable<'s>, AllocError>
+    requires zero { plain numbers.now.zero ≡ number_token (codes "0") }
+    requires one { plain numbers.now.one ≡ number_token (codes "1") }
+    requires version { plain numbers.now.version ≡ number_token (codes "100") }
     ensures { IfOk result (λ macros. macros ≡ first_macros) }
 {
     let mut macros = MacroTable::new(alloc);
-    let name = Vec::from_slice(alloc, b"__LINE__")?;
     let line = Macro {
-        name,
+        name: b"__LINE__",
         parameters: None,
-        body: Vec::new(alloc),
+        body: &[],
     };
-    macros.add(alloc, line)?;
-    macros.add(alloc, constant_macro(alloc, b"__FILE__", b"0")?)?;
-    macros.add(alloc, constant_macro(alloc, b"__VERSION__", b"100")?)?;
-    macros.add(alloc, constant_macro(alloc, b"GL_ES", b"1")?)?;
-    macros.add(
+    macros.define(alloc, line)?;
+    macros.define(alloc, constant_macro(b"__FILE__", &numbers.zero))?;
+    macros.define(alloc, constant_macro(b"__VERSION__", &numbers.version))?;
+    macros.define(alloc, constant_macro(b"GL_ES", &numbers.one))?;
+    macros.define(
         alloc,
-        constant_macro(alloc, b"GL_FRAGMENT_PRECISION_HIGH", b"1")?,
+        constant_macro(b"GL_FRAGMENT_PRECISION_HIGH", &numbers.one),
     )?;
     Ok(macros)
 }

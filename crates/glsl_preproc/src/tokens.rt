@@ -1,11 +1,11 @@
-ghost use Rattle.std.specs.Prelude.{◌≡◌, IfOk, OnOk, [], ◌∷◌, ◌++◌};
-ghost use Rattle.glsl_tree.specs.Token.{plain, plain_tokens};
+ghost use Rattle.std.specs.Prelude.{◌≡◌, IfOk};
+ghost use Rattle.glsl_tree.specs.Token.{plain};
 ghost use Rattle.glsl_tree.specs.declared.token.Class.TheVariants.{Int};
 ghost use Rattle.glsl_preproc.specs.Macros.{is_text, is_name_token, class_number, number_token};
-ghost use Rattle.glsl_preproc.specs.Replacement.{opens, closes, is_comma, at_line, line_number};
+ghost use Rattle.glsl_preproc.specs.Replacement.{opens, closes, is_comma};
 ghost use Rattle.glsl_preproc.specs.Directives.{is_hash_token, is_int_class, is_params};
 ghost use Rattle.glsl_preproc.specs.Expansion.{is_line_end};
-ghost use Rattle.glsl_preproc.specs.Views.{placed, lists};
+ghost use Rattle.glsl_preproc.specs.Views.{placed};
 
 use glsl_tree::{Class, Token};
 use std::alloc::{AllocError, Global};
@@ -97,72 +97,6 @@ pub fn copy_at(alloc: Global, token: &Token, line: u32) -> Result<Token, AllocEr
     Ok(Token {
         text,
         class: token.class,
-        line,
-    })
-}
-
-/// A copy of the token.
-pub fn copy_of(alloc: Global, token: &Token) -> Result<Token, AllocError>
-    ensures { IfOk result (λ copy. plain copy ≡ plain token.now) }
-{
-    copy_at(alloc, token, token.line)
-}
-
-/// Adds a copy of a token.
-pub fn push_copy(alloc: Global, out: &mut Vec<Token>, token: &Token) -> Result<(), AllocError>
-    ensures { OnOk result (plain_tokens out.new.items ≡ plain_tokens out.old.items ++ plain token.now ∷ []) }
-{
-    out.push(copy_of(alloc, token)?)?;
-    Ok(())
-}
-
-/// Adds a list of tokens.
-pub fn push_list(out: &mut Vec<Vec<Token>>, list: Vec<Token>) -> Result<(), AllocError>
-    ensures { OnOk result (lists out.new.items ≡ lists out.old.items ++ plain_tokens list.items ∷ []) }
-{
-    out.push(list)?;
-    Ok(())
-}
-
-/// Adds copies of tokens, all on one line.
-pub fn append_at_line(
-    alloc: Global,
-    out: &mut Vec<Token>,
-    tokens: &[Token],
-    line: u32,
-) -> Result<(), AllocError>
-    ensures { OnOk result (plain_tokens out.new.items ≡ plain_tokens out.old.items ++ at_line line (plain_tokens tokens.now)) }
-{
-    for token in tokens {
-        out.push(copy_at(alloc, token, line)?)?;
-    }
-    Ok(())
-}
-
-/// Adds copies of tokens.
-pub fn append_copies(
-    alloc: Global,
-    out: &mut Vec<Token>,
-    tokens: &[Token],
-) -> Result<(), AllocError>
-    ensures { OnOk result (plain_tokens out.new.items ≡ plain_tokens out.old.items ++ plain_tokens tokens.now) }
-{
-    for token in tokens {
-        out.push(copy_of(alloc, token)?)?;
-    }
-    Ok(())
-}
-
-/// The number of the token's line, as a token.
-pub fn line_number(alloc: Global, token: &Token) -> Result<Token, AllocError>
-    ensures { IfOk result (λ number. plain number ≡ line_number (plain token.now)) }
-{
-    let line = token.line;
-    let digits = format!(in alloc; "{line}")?;
-    let text = Vec::from_slice(alloc, digits.as_bytes())?;
-    Ok(Token {
-        text,
-        class: Class::Int,
         line,
     })
 }

@@ -1,48 +1,37 @@
-use Rattle.std.proofs.Common.{◌≡◌, ◌-◌, ◌+◌, drop, Some, None, true, false, sym, ap, ◌∙◌, arith}
+use Rattle.std.proofs.Common.{◌≡◌, ◌-◌, ◌+◌, drop, Some, None, true, false, refl, sym, ap, ◌∙◌, arith}
 use Rattle.std.proofs.lemmas.Bool.{false≢true}
 use Rattle.glsl_tree.specs.Token.{plain_tokens}
 use Rattle.glsl_preproc.specs.Values.{applied}
 use Rattle.glsl_preproc.specs.Conditions.{in_brackets, behind_sign, chain_from, chain_behind, expression_at, operand_within}
-use Rattle.glsl_preproc.specs.ConditionViews.{signed}
+use Rattle.glsl_preproc.specs.ConditionViews.{signed, parsed_of}
 use Rattle.glsl_preproc.proofs.Items.{some_items, none_left}
 use Rattle.glsl_preproc.proofs.Expressions.{expression_zero, expression_more, chain_skip, chain_at, chain_end, chained, operand_zero, operand_first, operand_none}
 use Rattle.glsl_preproc.proofs.conditions.+expression.Goals as goal
 
-pub expression-returns-then-level-eq0-clause-parsed : goal.expression-returns-then-level-eq0-clause-parsed
-expression-returns-then-level-eq0-clause-parsed t c = c.operand.ensures.parsed ∙ sym (expression_zero (operand_within c.args.levels) c.args.level (plain_tokens c.args.list.now) c.if-level-eq0.true)
+pub chain-returns-in-Wrong-clause-parsed : goal.chain-returns-in-Wrong-clause-parsed
+chain-returns-in-Wrong-clause-parsed t c = ap (λ p. chain_behind (expression_at (operand_within c.args.levels) (c.args.level - 1)) c.args.level (plain_tokens c.args.list.now) (parsed_of p)) (sym c.in-Wrong.is)
 
-pub expression-returns-in-Wrong-clause-parsed : goal.expression-returns-in-Wrong-clause-parsed
-expression-returns-in-Wrong-clause-parsed t c =
-    let list = plain_tokens c.args.list.now in
-    sym (expression_more (operand_within c.args.levels) (c.args.level - 1) c.args.level list (omega arith)
-    ∙ ap (chain_behind (expression_at (operand_within c.args.levels) (c.args.level - 1)) c.args.level list) (sym c.in-Wrong.ensures.parsed))
+pub chain-returns-in-TooDeep-clause-parsed : goal.chain-returns-in-TooDeep-clause-parsed
+chain-returns-in-TooDeep-clause-parsed t c = ap (λ p. chain_behind (expression_at (operand_within c.args.levels) (c.args.level - 1)) c.args.level (plain_tokens c.args.list.now) (parsed_of p)) (sym c.in-TooDeep.is)
 
-pub expression-returns-in-TooDeep-clause-parsed : goal.expression-returns-in-TooDeep-clause-parsed
-expression-returns-in-TooDeep-clause-parsed t c =
-    let list = plain_tokens c.args.list.now in
-    sym (expression_more (operand_within c.args.levels) (c.args.level - 1) c.args.level list (omega arith)
-    ∙ ap (chain_behind (expression_at (operand_within c.args.levels) (c.args.level - 1)) c.args.level list) (sym c.in-TooDeep.ensures.parsed))
-
-pub expression-loop-rest-init : goal.expression-loop-rest-init
-expression-loop-rest-init t c =
-    let list = plain_tokens c.args.list.now in
+pub chain-loop-rest-init : goal.chain-loop-rest-init
+chain-loop-rest-init t c =
     let operand = expression_at (operand_within c.args.levels) (c.args.level - 1) in
     record {
       rest = ap (λ l. chain_from operand c.args.level c.in-Read.value c.in-Read.count 0 (plain_tokens l)) c.split_at.ensures.back
           ∙ sym (chain_skip operand c.args.level c.in-Read.value c.in-Read.count c.in-Read.count c.args.list.now)
-          ∙ ap (chain_behind operand c.args.level list) c.in-Read.ensures.parsed
-          ∙ sym (expression_more (operand_within c.args.levels) (c.args.level - 1) c.args.level list (omega arith));
+          ∙ ap (λ p. chain_behind operand c.args.level (plain_tokens c.args.list.now) (parsed_of p)) (sym c.in-Read.is);
       count = omega arith;
     }
 
-pub expression-returns-in-None-clause-parsed : goal.expression-returns-in-None-clause-parsed
-expression-returns-in-None-clause-parsed t c =
+pub chain-returns-in-None-clause-parsed : goal.chain-returns-in-None-clause-parsed
+chain-returns-in-None-clause-parsed t c =
     let rest = c.loop-rest.rest.now in
     let some = some_items rest _ c.is_empty.ensures c.loop-rest-test.true in
     sym (chain_at (expression_at (operand_within c.args.levels) (c.args.level - 1)) c.args.level c.loop-rest.value c.loop-rest.count rest c.index-rest-0.result None some c.index-rest-0.is c.in-None.ensures) ∙ c.loop-rest.invariant.rest
 
-pub expression-loop-rest-preserved : goal.expression-loop-rest-preserved
-expression-loop-rest-preserved t c =
+pub chain-loop-rest-preserved : goal.chain-loop-rest-preserved
+chain-loop-rest-preserved t c =
     let rest = c.loop-rest.rest.now in
     let operand = expression_at (operand_within c.args.levels) (c.args.level - 1) in
     let v = c.loop-rest.value in
@@ -62,8 +51,8 @@ expression-loop-rest-preserved t c =
       count = omega arith;
     }
 
-pub expression-returns-in-Wrong-expression-clause-parsed : goal.expression-returns-in-Wrong-expression-clause-parsed
-expression-returns-in-Wrong-expression-clause-parsed t c =
+pub chain-returns-in-Wrong-expression-clause-parsed : goal.chain-returns-in-Wrong-expression-clause-parsed
+chain-returns-in-Wrong-expression-clause-parsed t c =
     let rest = c.loop-rest.rest.now in
     let operand = expression_at (operand_within c.args.levels) (c.args.level - 1) in
     let some = some_items rest _ c.is_empty.ensures c.loop-rest-test.true in
@@ -72,8 +61,8 @@ expression-returns-in-Wrong-expression-clause-parsed t c =
     ∙ ap (chained operand c.args.level c.loop-rest.value c.loop-rest.count (plain_tokens (drop 1 rest)) c.in-Some.op) (sym parsed))
     ∙ c.loop-rest.invariant.rest
 
-pub expression-returns-in-TooDeep-expression-clause-parsed : goal.expression-returns-in-TooDeep-expression-clause-parsed
-expression-returns-in-TooDeep-expression-clause-parsed t c =
+pub chain-returns-in-TooDeep-expression-clause-parsed : goal.chain-returns-in-TooDeep-expression-clause-parsed
+chain-returns-in-TooDeep-expression-clause-parsed t c =
     let rest = c.loop-rest.rest.now in
     let operand = expression_at (operand_within c.args.levels) (c.args.level - 1) in
     let some = some_items rest _ c.is_empty.ensures c.loop-rest-test.true in
@@ -82,9 +71,34 @@ expression-returns-in-TooDeep-expression-clause-parsed t c =
     ∙ ap (chained operand c.args.level c.loop-rest.value c.loop-rest.count (plain_tokens (drop 1 rest)) c.in-Some.op) (sym parsed))
     ∙ c.loop-rest.invariant.rest
 
+pub chain-returns-clause-parsed : goal.chain-returns-clause-parsed
+chain-returns-clause-parsed t c =
+    sym (chain_end (expression_at (operand_within c.args.levels) (c.args.level - 1)) c.args.level c.loop-rest.value c.loop-rest.count c.loop-rest.rest.now (none_left _ _ c.is_empty.ensures c.loop-rest-test.false)) ∙ c.loop-rest.invariant.rest
+
+pub expression-loop-done-init : goal.expression-loop-done-init
+expression-loop-done-init t c = record {
+  parsed = c.operand-parsed.ensures.parsed ∙ sym (expression_zero (operand_within c.args.levels) 0 (plain_tokens c.args.list.now) refl);
+  within = c.operand-parsed.ensures.within;
+  most = omega arith;
+}
+
+pub expression-loop-done-preserved : goal.expression-loop-done-preserved
+expression-loop-done-preserved t c =
+    let operand = operand_within c.args.levels in
+    let list = plain_tokens c.args.list.now in
+    let done = c.loop-done.done in
+    let same : done + 1 - 1 ≡ done = omega arith in
+    record {
+      parsed = c.chain-parsed.ensures.parsed ∙ ap (λ k. chain_behind (expression_at operand k) (done + 1) list (parsed_of c.loop-done.parsed)) same
+          ∙ ap (chain_behind (expression_at operand done) (done + 1) list) c.loop-done.invariant.parsed ∙ sym (expression_more operand done (done + 1) list refl);
+      within = c.chain-parsed.ensures.within;
+      most = omega arith;
+    }
+
 pub expression-returns-clause-parsed : goal.expression-returns-clause-parsed
 expression-returns-clause-parsed t c =
-    sym (chain_end (expression_at (operand_within c.args.levels) (c.args.level - 1)) c.args.level c.loop-rest.value c.loop-rest.count c.loop-rest.rest.now (none_left _ _ c.is_empty.ensures c.loop-rest-test.false)) ∙ c.loop-rest.invariant.rest
+    let same : c.loop-done.done ≡ c.args.level = omega (arith, c.loop-done-test.false) in
+    c.loop-done.invariant.parsed ∙ ap (λ k. expression_at (operand_within c.args.levels) k (plain_tokens c.args.list.now)) same
 
 pub operand-returns-then-levels-eq0-clause-parsed : goal.operand-returns-then-levels-eq0-clause-parsed
 operand-returns-then-levels-eq0-clause-parsed t c = sym (operand_zero c.args.levels (plain_tokens c.args.list.now) c.if-levels-eq0.true)

@@ -1,6 +1,6 @@
 use Rattle.std.proofs.Common.{◌≡◌, ◌-◌, ◌+◌, ◌++◌, [], ◌∷◌, Some, length, sym, ap, ◌∙◌, arith}
 use Rattle.std.proofs.lemmas.Bool.{cond-true, cond-false}
-use Rattle.glsl_tree.specs.Token.{plain, plain_tokens}
+use Rattle.glsl_tree.specs.Token.{plain_tokens}
 use Rattle.glsl_preproc.specs.Directives.{parameters_from}
 use Rattle.glsl_preproc.proofs.Defining.{parameters_two, parameters_few}
 use Rattle.glsl_preproc.proofs.directives.parameters_from.Goals as goal

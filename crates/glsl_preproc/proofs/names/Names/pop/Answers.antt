@@ -1,8 +1,7 @@
-use Rattle.std.proofs.Common.{◌≡◌, ◌≢◌, Some, None, cond, length, map, bytes_eq, option_copied, refl, sym, ap, ◌∙◌, arith}
+use Rattle.std.proofs.Common.{◌≡◌, Some, None, cond, length, map, bytes_eq, option_copied, refl, sym, ap, ◌∙◌, arith}
 use Rattle.std.proofs.lemmas.List.{length-map}
 use Rattle.glsl_preproc.specs.NamePlaces.{index_of, place_of}
-use Rattle.glsl_preproc.proofs.NamePlaces.{left_known, left_new, pushed}
-use Rattle.glsl_preproc.proofs.Slots.{places_after}
+use Rattle.glsl_preproc.proofs.NamePlaces.{left_known, left_new, pushed, places_after}
 use Rattle.glsl_preproc.proofs.names.Names.pop.Goals as goal
 
 pub invariant_of-self-in_default-get : goal.invariant_of-self-in_default-get

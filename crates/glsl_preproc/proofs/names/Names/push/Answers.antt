@@ -1,9 +1,8 @@
-use Rattle.std.proofs.Common.{◌≡◌, Some, cond, length, map, bytes_eq, refl, sym, ap, ◌∙◌, arith}
+use Rattle.std.proofs.Common.{◌≡◌, Some, cond, length, map, bytes_eq, sym, ap, ◌∙◌, arith}
 use Rattle.std.specs.List.{list_any}
 use Rattle.std.proofs.lemmas.List.{length-map}
 use Rattle.glsl_preproc.specs.NamePlaces.{index_of, place_of}
-use Rattle.glsl_preproc.proofs.NamePlaces.{known, added, no_place, pushed}
-use Rattle.glsl_preproc.proofs.Slots.{places_after}
+use Rattle.glsl_preproc.proofs.NamePlaces.{known, added, no_place, pushed, places_after}
 use Rattle.glsl_preproc.proofs.names.Names.push.Goals as goal
 
 pub invariant_of-self-then-contains : goal.invariant_of-self-then-contains

@@ -1,6 +1,0 @@
-use Rattle.std.proofs.Common.{◌≡◌, take}
-use Rattle.glsl_tree.specs.Token.{plain_tokens}
-use Rattle.glsl_preproc.proofs.directives.copies.Given as goal
-
-abbrev pub invariant-loop-token : goal.invariant-loop-token
-invariant-loop-token l = plain_tokens l.out.items ≡ plain_tokens (take l.token-index l.list)
