@@ -44,6 +44,7 @@ impl Model for Buffers {
 
 impl Buffers {
     /// No buffer, and nothing bound. Takes no memory.
+    #[inline]
     pub fn new(alloc: Global) -> Buffers
         ensures { result ≡ nothing_stored }
     {
@@ -56,6 +57,7 @@ impl Buffers {
 
     /// Adds the new buffer `h`, which isn't there yet: no bytes, usage STATIC_DRAW, bound to nothing. Err only
     /// where memory runs out, and then nothing changes.
+    #[inline]
     pub fn add(&mut self, h: Handle) -> Result<(), Memory>
         requires { IsNone (get self.old.buffers h) }
         ensures ok { OnOk result (self.new ≡ record self.old { buffers = insert self.old.buffers h new_stored }) }
@@ -66,6 +68,7 @@ impl Buffers {
 
     /// Binds a buffer that is there, or none, to the target (OpenGL ES 2.0 section 2.9). Operation where the
     /// buffer was bound to the other target before (WebGL 1.0 section 6.1), and then nothing changes.
+    #[inline]
     pub fn bind(&mut self, target: BufferTarget, h: Option<Handle>) -> Result<(), GlError>
         requires { ForSome h (λ q. IsSome (get self.old.buffers q)) }
         ensures judged { Judged (bind_rules self.old target h) result }
@@ -84,6 +87,7 @@ impl Buffers {
     /// Gives the bound buffer this content, of at most 67,108,864 bytes where they are given, and this usage
     /// (bufferData, OpenGL ES 2.0 section 2.9). Value where the size is above 67,108,864, Operation where
     /// nothing is bound, Memory only where memory runs out for the bytes of an element buffer; then nothing changes.
+    #[inline]
     pub fn data(
         &mut self,
         target: BufferTarget,
@@ -111,6 +115,7 @@ impl Buffers {
     /// Writes these bytes into the bound buffer from the offset on (bufferSubData, OpenGL ES 2.0 section 2.9).
     /// Value where the offset is negative, Operation where nothing is bound, Value where the bytes end past the
     /// buffer's end, even if there are none; then nothing changes. Takes no memory.
+    #[inline]
     pub fn sub_data(
         &mut self,
         target: BufferTarget,
@@ -139,6 +144,7 @@ impl Buffers {
     }
 
     /// The buffer that is bound to the target, which is there and was first bound to it.
+    #[inline]
     pub fn bound(&self, target: BufferTarget) -> Option<Handle>
         ensures value { result ≡ binding self.now.bound target }
         ensures first { IsBoundFirst self.now.buffers target result }
@@ -147,6 +153,7 @@ impl Buffers {
     }
 
     /// The size in bytes of a buffer that is there, at most 67,108,864.
+    #[inline]
     pub fn size(&self, h: Handle) -> u32
         requires { IsSome (get self.now.buffers h) }
         ensures value { IfSome (get self.now.buffers h) (λ b. result ≡ b.size) }
@@ -156,6 +163,7 @@ impl Buffers {
     }
 
     /// The GL word of the usage of a buffer that is there.
+    #[inline]
     pub fn usage(&self, h: Handle) -> u32
         requires { IsSome (get self.now.buffers h) }
         ensures { IfSome (get self.now.buffers h) (λ b. result ≡ usage_word b.usage) }

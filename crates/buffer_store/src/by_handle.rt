@@ -36,6 +36,7 @@ impl Model for ByHandle {
 #[tactic(auto, using(crate::proofs::Shelf::of_shelf))]
 impl ByHandle {
     /// No buffer at all.
+    #[inline]
     pub(crate) fn new(alloc: Global) -> ByHandle
         ensures { result ≡ empty }
     {
@@ -45,6 +46,7 @@ impl ByHandle {
     }
 
     /// The buffer of this handle.
+    #[inline]
     pub(crate) fn get(&self, h: Handle) -> Option<&Held>
         ensures { option_copied result ≡ get self.now h }
     {
@@ -55,6 +57,7 @@ impl ByHandle {
     }
 
     /// The buffer of a handle that has one.
+    #[inline]
     pub(crate) fn at(&self, h: Handle) -> &Held
         requires { IsSome (get self.now h) }
         ensures { get self.now h ≡ Some result.now }
@@ -66,6 +69,7 @@ impl ByHandle {
     }
 
     /// Adds a buffer under a handle that has none. Err only where memory runs out, and then nothing changes.
+    #[inline]
     pub(crate) fn add(&mut self, h: Handle, held: Held) -> Result<(), Memory>
         requires { IsNone (get self.old h) }
         ensures ok { OnOk result (self.new ≡ insert self.old h held) }
@@ -80,6 +84,7 @@ impl ByHandle {
     }
 
     /// Puts another buffer of the same target in the place of the one of this handle.
+    #[inline]
     pub(crate) fn replace(&mut self, target: BufferTarget, h: Handle, held: Held)
         requires old { IsOf target (get self.old h) }
         requires new { held.first_target ≡ Some target }
@@ -93,6 +98,7 @@ impl ByHandle {
 
     /// Makes the buffer of this handle one of this target. Operation where it is one of the other, and then
     /// nothing changes.
+    #[inline]
     pub(crate) fn claim(
         &mut self,
         alloc: Global,
@@ -131,6 +137,7 @@ impl ByHandle {
     }
 
     /// Writes these bytes from `at` on into the element buffer of this handle.
+    #[inline]
     pub(crate) fn patch(&mut self, h: Handle, at: usize, bytes: &[u8])
         requires { IsSomeAnd (get self.old h) (IsIndexed (at + length bytes.now)) }
         ensures value { self.new ≡ changed_at self.old h (with_bytes at bytes.now) (get self.old h) }

@@ -16,6 +16,7 @@ pub enum Content<'a> {
 
 impl Content<'_> {
     /// Whether there are more bytes than a buffer holds.
+    #[inline]
     pub(crate) fn is_long(self) -> bool
         requires { HasShortBytes self }
         ensures { result ≡ nat_lt buffer_bytes_max (size_of self.entry) }
@@ -27,6 +28,7 @@ impl Content<'_> {
     }
 
     /// How many bytes there are, at most 67,108,864.
+    #[inline]
     pub(crate) fn size(self) -> u32
         requires { size_of self ≤ buffer_bytes_max }
         ensures { result ≡ size_of self.entry }

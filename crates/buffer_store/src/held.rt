@@ -44,6 +44,7 @@ impl Model for Held {
 
 impl Held {
     /// A buffer that was just made.
+    #[inline]
     pub(crate) fn new() -> Held
         ensures { result ≡ new_stored }
     {
@@ -78,6 +79,7 @@ impl Held {
     }
 
     /// The target that it was first bound to.
+    #[inline]
     pub(crate) fn first_target(&self) -> Option<BufferTarget>
         ensures value { result ≡ self.now.first_target }
         ensures sound { IsSound self.now }
@@ -90,6 +92,7 @@ impl Held {
     }
 
     /// Its size in bytes, at most 67,108,864.
+    #[inline]
     pub(crate) fn size(&self) -> u32
         ensures value { result ≡ self.now.size }
         ensures sound { IsSound self.now }
@@ -102,6 +105,7 @@ impl Held {
     }
 
     /// The GL word of its usage.
+    #[inline]
     pub(crate) fn usage(&self) -> u32
         ensures { result ≡ usage_word self.now.usage }
     {
@@ -132,6 +136,7 @@ impl Held {
     }
 
     /// Writes these bytes from `at` on into an element buffer.
+    #[inline]
     pub(crate) fn patch(&mut self, at: usize, bytes: &[u8])
         requires { IsIndexed (at + length bytes.now) self.old }
         ensures { self.new ≡ with_bytes at bytes.now self.old }

@@ -5,15 +5,28 @@ use Rattle.wire_io.specs.Faults.{Rose}
 use Rattle.call_records.specs.Numbers.{body_max, header_bytes, input_max, session_magic, session_version}
 use Rattle.call_records.specs.declared.reading.Step as Steps
 use Rattle.call_records.specs.declared.reading.Step.TheVariants.{Call, End}
+use Rattle.call_records.specs.declared.reading.Unread as Unreads
+use Rattle.call_records.specs.declared.reading.Unread.TheVariants as Unread
 use Rattle.call_records.specs.declared.reading.ReadEnd.{ReadEnd}
 use Rattle.call_records.specs.declared.reading.ReadEnd.TheVariants.{Truncated, Magic, Version, UnknownOp, BodyLong, BodyShape, AfterEnd, InputLong, ReadFault}
-use Rattle.call_records.specs.Operations.{is_known, has_shape}
+use Rattle.gl_numbers.specs.Fields.{allows}
+use Rattle.call_records.specs.Operations.{row_of, is_known, has_shape}
 use Rattle.call_records.specs.Records.{encoding, session_start, closing_record, Fits}
 
 -- the record of a step
 abbrev pub step_encoding : Steps.Step → List ℕ
 step_encoding (Call call) = encoding call
 step_encoding End = closing_record
+
+-- the record of a call whose fields are unread: its operation's number, its body's length and its body
+abbrev pub unread_encoding : Unreads.Unread → List ℕ
+unread_encoding (Unread.Call operation body) = le32 (row_of operation).number ++ (le32 (length body.now) ++ body.now)
+unread_encoding Unread.End = closing_record
+
+-- the body has a length that the operation allows
+abbrev pub IsAllowed : Unreads.Unread → Type 0
+IsAllowed (Unread.Call operation body) = allows body_max (row_of operation) (length body.now) ≡ true
+IsAllowed Unread.End = Unit {0}
 
 -- a call that was read has a record
 abbrev pub HasFits : Steps.Step → Type 0
@@ -85,6 +98,12 @@ abbrev pub Answers : ℕ → List ℕ → List ℕ → Result Steps.Step ReadEnd
 Answers at old new (Ok (Call call)) = old ≡ encoding call ++ new
 Answers at old new (Ok End) = (old ≡ closing_record) × (new ≡ [])
 Answers at old new (Err e) = Refuses at old new e
+
+-- what reading the record at an offset returns, where a call's fields are left unread
+abbrev pub AnswersUnread : ℕ → List ℕ → List ℕ → Result Unreads.Unread ReadEnd → Type 0
+AnswersUnread at old new (Ok (Unread.Call operation body)) = old ≡ unread_encoding (Unread.Call operation body) ++ new
+AnswersUnread at old new (Ok Unread.End) = (old ≡ closing_record) × (new ≡ [])
+AnswersUnread at old new (Err e) = Refuses at old new e
 
 -- the number of faults hasn't fallen, and ReadFault is returned only where it rose
 pub record ReadCause {T : Type 0} (before now : ℕ) (result : Result T ReadEnd) : Type 0 where

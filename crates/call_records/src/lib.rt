@@ -38,14 +38,15 @@ pub use color_calls::{ColorCall, ColorOperation};
 pub use depth_stencil_calls::{DepthStencilCall, DepthStencilOperation};
 pub use draw_calls::{DrawCall, DrawOperation};
 pub use object_calls::{New, ObjectCall, ObjectKind, ObjectOperation};
-pub use operations::{BODY_MAX, CLOSE, HEADER_BYTES, Operation};
+pub use operations::{BODY_MAX, CLOSE, HEADER_BYTES, Operation, Subject};
 pub use query_calls::{QueryCall, QueryOperation};
 pub use raster_calls::RasterCall;
 pub use reading::{
-    INPUT_MAX, ReadEnd, SESSION_MAGIC, SESSION_VERSION, Step, read_call, read_start,
+    INPUT_MAX, ReadEnd, SESSION_MAGIC, SESSION_VERSION, Step, Unread, read_call, read_record,
+    read_start,
 };
 pub use record_buf::RecordBuf;
-pub use replies::{Reply, Value, write_reply};
+pub use replies::{Reply, Value, write_list, write_nothing, write_number, write_reply};
 pub use reply_reading::read_reply;
 pub use texture_calls::{TextureCall, TextureOperation};
 pub use view_calls::{ViewCall, ViewOperation};

@@ -1,4 +1,6 @@
 ghost use Rattle.std.specs.Prelude.{◌≡◌, IfSome};
+ghost use Rattle.call_records.specs.declared.operations.Operation.{Operation};
+ghost use Rattle.call_records.specs.declared.operations.Operation.TheVariants as Whole;
 ghost use Rattle.call_records.specs.Operations.{row_of, operation_numbered};
 
 use crate::attrib_calls::AttribOperation;
@@ -97,5 +99,96 @@ impl Operation {
             Operation::View(operation) => operation.row(),
             Operation::Draw(operation) => operation.row(),
         }
+    }
+}
+
+/// The operations of one subject, as operations of the whole table.
+pub trait Subject: Copy {
+    /// The operation of the whole table.
+    ghost whole: { Self → Operation };
+
+    /// The operation of the whole table.
+    fn whole(self) -> Operation
+        ensures { result ≡ whole self };
+}
+
+impl Subject for ObjectOperation {
+    ghost whole = { λ operation. Whole.Object operation };
+
+    #[inline(always)]
+    fn whole(self) -> Operation {
+        Operation::Object(self)
+    }
+}
+
+impl Subject for BufferOperation {
+    ghost whole = { λ operation. Whole.Buffer operation };
+
+    #[inline(always)]
+    fn whole(self) -> Operation {
+        Operation::Buffer(self)
+    }
+}
+
+impl Subject for AttribOperation {
+    ghost whole = { λ operation. Whole.Attrib operation };
+
+    #[inline(always)]
+    fn whole(self) -> Operation {
+        Operation::Attrib(self)
+    }
+}
+
+impl Subject for TextureOperation {
+    ghost whole = { λ operation. Whole.Texture operation };
+
+    #[inline(always)]
+    fn whole(self) -> Operation {
+        Operation::Texture(self)
+    }
+}
+
+impl Subject for QueryOperation {
+    ghost whole = { λ operation. Whole.Query operation };
+
+    #[inline(always)]
+    fn whole(self) -> Operation {
+        Operation::Query(self)
+    }
+}
+
+impl Subject for ColorOperation {
+    ghost whole = { λ operation. Whole.Color operation };
+
+    #[inline(always)]
+    fn whole(self) -> Operation {
+        Operation::Color(self)
+    }
+}
+
+impl Subject for DepthStencilOperation {
+    ghost whole = { λ operation. Whole.DepthStencil operation };
+
+    #[inline(always)]
+    fn whole(self) -> Operation {
+        Operation::DepthStencil(self)
+    }
+}
+
+impl Subject for ViewOperation {
+    ghost whole = { λ operation. Whole.View operation };
+
+    #[inline(always)]
+    fn whole(self) -> Operation {
+        Operation::View(self)
+    }
+}
+
+impl Subject for DrawOperation {
+    ghost whole = { λ operation. Whole.Draw operation };
+
+    #[inline(always)]
+    fn whole(self) -> Operation {
+        Operation::Draw(self)
     }
 }

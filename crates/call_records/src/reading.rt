@@ -1,18 +1,18 @@
-ghost use Rattle.std.specs.Prelude.{◌≡◌, ◌+◌, ◌^◌, ◌<◌, ◌≤◌, ◌++◌, length, true, IfOk, OnOk, IfErr};
+ghost use Rattle.std.specs.Prelude.{◌≡◌, ◌+◌, ◌^◌, ◌<◌, ◌≤◌, ◌++◌, length, None, IfOk, OnOk, IfErr};
 ghost use Rattle.std.specs.Io.KnownBytes.{prepend_known};
 ghost use Rattle.gl_numbers.specs.Bytes.{le32};
-ghost use Rattle.wire_io.specs.Sources.{WhereTold};
-ghost use Rattle.gl_numbers.specs.Fields.{allows};
-ghost use Rattle.call_records.specs.Operations.{row_of};
-ghost use Rattle.call_records.specs.Records.{session_start, operation_of, body_of, Fits};
-ghost use Rattle.call_records.specs.Reading.{StartAnswers, Answers, Refuses, ReadCause, step_encoding, HasFits, IsStartEnd, IsRecordEnd, HasRoom};
+ghost use Rattle.wire_io.specs.Faults.{HasCause};
+ghost use Rattle.wire_io.specs.Sources.{Fills, WhereTold};
+ghost use Rattle.call_records.specs.Operations.{operation_numbered};
+ghost use Rattle.call_records.specs.Records.{session_start};
+ghost use Rattle.call_records.specs.Reading.{StartAnswers, Answers, AnswersUnread, Refuses, ReadCause, step_encoding, unread_encoding, HasFits, IsAllowed, IsStartEnd, IsRecordEnd, HasRoom};
 ghost use Rattle.call_records.specs.Parts.{EndsShort, Judges, TakesHead, EndsClosed};
 
 use crate::calls::Call;
 use crate::operations::{BODY_MAX, CLOSE, HEADER_BYTES, Operation};
 use crate::record_buf::RecordBuf;
 use gl_numbers::u32_at;
-use wire_io::{Source, read_full};
+use wire_io::{Failed, Source, read_full};
 
 /// The first word of a session: the text `WGLR`.
 pub const SESSION_MAGIC: u32 = 0x524C_4757;
@@ -26,6 +26,18 @@ pub const INPUT_MAX: u64 = 0x4000_0000_0000_0000;
 pub enum Step<'a> {
     /// A call.
     Call(Call<'a>),
+    /// The closing record, with nothing after it.
+    End,
+}
+
+/// What the next record of a session is, before a call's fields are read.
+#[derive(Clone, Copy)]
+pub enum Unread<'a> {
+    /// A call: its operation, and its body of a length that the operation allows.
+    Call {
+        operation: Operation,
+        body: &'a [u8],
+    },
     /// The closing record, with nothing after it.
     End,
 }
@@ -70,13 +82,26 @@ fn fill<S: Source>(input: &mut S, at: u64, piece: &mut [u8]) -> Result<(), ReadE
     ensures short { IfErr result (EndsShort at (length piece.old) (S.left input.old) (S.left input.new)) }
     ensures cause { ReadCause (S.faults input.old) (S.faults input.new) result }
 {
-    let Ok(n) = read_full(input, piece) else {
+    if piece.is_empty() || input.give(piece) {
+        return Ok(());
+    }
+    let Ok(n) = read_by_parts(input, piece) else {
         return Err(ReadEnd::ReadFault);
     };
     if n < piece.len() {
         return Err(ReadEnd::Truncated(at + n as u64));
     }
     Ok(())
+}
+
+/// Reads until the piece is full or the end comes, by as many reads as it takes.
+#[cold]
+#[inline(never)]
+fn read_by_parts<S: Source>(input: &mut S, piece: &mut [u8]) -> Result<usize, Failed>
+    ensures bytes { Fills (S.left input.old) (S.left input.new) result piece.new }
+    ensures cause { HasCause (S.faults input.old) (S.faults input.new) result }
+{
+    read_full(input, piece)
 }
 
 /// Reads two words, before which `at` bytes of the session were taken.
@@ -100,20 +125,34 @@ fn read_words<S: Source>(input: &mut S, at: u64) -> Result<(u32, u32), ReadEnd>
 fn judge(number: u32, len: usize, at: u64) -> Result<Head, ReadEnd>
     ensures { Judges at number len result }
 {
-    let operation = Operation::from_u32(number);
-    if number != CLOSE && operation.is_none() {
+    let Some(operation) = Operation::from_u32(number) else {
+        return judge_other(number, len, at);
+    };
+    if operation.row().allows(BODY_MAX, len) {
+        return Ok(Head::Record(operation, len));
+    }
+    if len > BODY_MAX {
+        return Err(ReadEnd::BodyLong(at));
+    }
+    Err(ReadEnd::BodyShape(at))
+}
+
+/// Judges a header whose number is no call's.
+#[inline(always)]
+fn judge_other(number: u32, len: usize, at: u64) -> Result<Head, ReadEnd>
+    requires { operation_numbered number ≡ None }
+    ensures { Judges at number len result }
+{
+    if number != CLOSE {
         return Err(ReadEnd::UnknownOp(at));
     }
     if len > BODY_MAX {
         return Err(ReadEnd::BodyLong(at));
     }
-    match operation {
-        None if len == 0 => Ok(Head::Closing),
-        Some(operation) if operation.row().allows(BODY_MAX, len) => Ok(Head::Record(
-            operation, len,
-        )),
-        _ => Err(ReadEnd::BodyShape(at)),
+    if len > 0 {
+        return Err(ReadEnd::BodyShape(at));
     }
+    Ok(Head::Closing)
 }
 
 /// Reads and judges a record's header.
@@ -132,29 +171,25 @@ fn read_head<S: Source>(input: &mut S, at: u64) -> Result<Head, ReadEnd>
     }
 }
 
-/// Reads a call's body into the buffer.
-#[inline]
+/// Reads a record's body into the buffer.
+#[inline(always)]
 fn read_body<'b, S: Source>(
     input: &mut S,
     at: u64,
-    operation: Operation,
     len: usize,
     buf: &'b mut RecordBuf,
-) -> Result<Call<'b>, ReadEnd>
+) -> Result<&'b [u8], ReadEnd>
     requires place { at ≤ 2 ^ 63 }
     requires within { len ≤ BODY_MAX }
-    requires shape { allows BODY_MAX (row_of operation) len ≡ true }
-    ensures operation { IfOk result (λ call. operation_of call ≡ operation) }
-    ensures len { IfOk result (λ call. length (body_of call) ≡ len) }
-    ensures fits { IfOk result Fits }
-    ensures taken { IfOk result (λ call. S.left input.old ≡ prepend_known (body_of call) (S.left input.new)) }
+    ensures len { IfOk result (λ body. length body.now ≡ len) }
+    ensures taken { IfOk result (λ body. S.left input.old ≡ prepend_known body.now (S.left input.new)) }
     ensures short { IfErr result (EndsShort at len (S.left input.old) (S.left input.new)) }
     ensures cause { ReadCause (S.faults input.old) (S.faults input.new) result }
 {
     buf.reach(len);
     let body = &mut buf.bytes_mut()[..len];
     match fill(input, at, body) {
-        Ok(()) => Ok(Call::of(operation, body)),
+        Ok(()) => Ok(body),
         Err(end) => Err(end),
     }
 }
@@ -196,6 +231,41 @@ pub fn read_start<S: Source>(input: &mut S) -> Result<(), ReadEnd>
     Ok(())
 }
 
+/// Reads the next record, of which `at` bytes of the session stand before, and leaves a call's fields unread. Its body
+/// borrows `buf`. After the closing record it sees that the input ends there. ReadFault comes only where the source's number
+/// of faults rose; every other refusal comes exactly by the bytes and `at`.
+#[inline(always)]
+#[tactic(auto, using(crate::proofs::Lengths::lengths))]
+pub fn read_record<'b, S: Source>(
+    input: &mut S,
+    at: u64,
+    buf: &'b mut RecordBuf,
+) -> Result<Unread<'b>, ReadEnd>
+    requires { at ≤ 2 ^ 63 }
+    ensures taken { IfOk result (λ unread. S.left input.old ≡ prepend_known (unread_encoding unread) (S.left input.new)) }
+    ensures answers { WhereTold (λ old new. AnswersUnread at old new result) (S.left input.old) (S.left input.new) }
+    ensures cause { ReadCause (S.faults input.old) (S.faults input.new) result }
+    ensures room { HasRoom at result }
+    ensures allowed { IfOk result IsAllowed }
+    ensures never { IfErr result IsRecordEnd }
+{
+    if at > INPUT_MAX - HEADER_BYTES as u64 {
+        return Err(ReadEnd::InputLong(at));
+    }
+    let after = at + HEADER_BYTES as u64;
+    match read_head(input, at) {
+        Err(end) => Err(end),
+        Ok(Head::Closing) => match see_end(input, after) {
+            Ok(()) => Ok(Unread::End),
+            Err(end) => Err(end),
+        },
+        Ok(Head::Record(operation, len)) => match read_body(input, after, len, buf) {
+            Ok(body) => Ok(Unread::Call { operation, body }),
+            Err(end) => Err(end),
+        },
+    }
+}
+
 /// Reads the next record, of which `at` bytes of the session stand before. A call's tail borrows `buf`. After
 /// the closing record it sees that the input ends there. ReadFault comes only where the source's number of
 /// faults rose; every other refusal comes exactly by the bytes and `at`.
@@ -215,19 +285,9 @@ pub fn read_call<'b, S: Source>(
     ensures fits { IfOk result HasFits }
     ensures never { IfErr result IsRecordEnd }
 {
-    if at > INPUT_MAX - HEADER_BYTES as u64 {
-        return Err(ReadEnd::InputLong(at));
-    }
-    let after = at + HEADER_BYTES as u64;
-    match read_head(input, at) {
+    match read_record(input, at, buf) {
+        Ok(Unread::Call { operation, body }) => Ok(Step::Call(Call::of(operation, body))),
+        Ok(Unread::End) => Ok(Step::End),
         Err(end) => Err(end),
-        Ok(Head::Closing) => match see_end(input, after) {
-            Ok(()) => Ok(Step::End),
-            Err(end) => Err(end),
-        },
-        Ok(Head::Record(operation, len)) => match read_body(input, after, operation, len, buf) {
-            Ok(call) => Ok(Step::Call(call)),
-            Err(end) => Err(end),
-        },
     }
 }

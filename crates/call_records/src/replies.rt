@@ -3,6 +3,7 @@ ghost use Rattle.std.specs.List.{flat_map};
 ghost use Rattle.gl_numbers.specs.Bytes.{le32};
 ghost use Rattle.wire_io.specs.Faults.{HasCause};
 ghost use Rattle.wire_io.specs.Sinks.{Sends};
+ghost use Rattle.call_records.specs.declared.replies.Value.TheVariants as Values;
 ghost use Rattle.call_records.specs.Replies.{reply_encoding};
 
 use gl_numbers::{Name, Words, three_words, two_words, word_bytes};
@@ -98,24 +99,49 @@ fn write_active<O: Sink>(
     write_after_words(size, kind, name.len() as u32, name, out)
 }
 
-/// Writes a reply's bytes: the code raised, the value's tag, and the value (this project's own format). Failed
-/// comes only where the sink's number of faults rose; then a prefix of the bytes was written.
+/// Writes the reply to a call that returns nothing, or that raised an error.
 #[inline(always)]
 #[tactic(auto, using(crate::proofs::Sending::two_whole))]
+pub fn write_nothing<O: Sink>(raised: u32, out: &mut O) -> Result<(), Failed>
+    ensures bytes { Sends (O.held out.old) (O.held out.new) result (reply_encoding (record { raised = raised; value = Values.Nothing })) }
+    ensures cause { HasCause (O.faults out.old) (O.faults out.new) result }
+{
+    write_all(&two_words(raised, TAG_NOTHING), out)
+}
+
+/// Writes the reply to a call that returns a number.
+#[inline(always)]
+pub fn write_number<O: Sink>(raised: u32, n: u32, out: &mut O) -> Result<(), Failed>
+    ensures bytes { Sends (O.held out.old) (O.held out.new) result (reply_encoding (record { raised = raised; value = Values.Number n })) }
+    ensures cause { HasCause (O.faults out.old) (O.faults out.new) result }
+{
+    write_all(&three_words(raised, TAG_NUMBER, n), out)
+}
+
+/// Writes the reply to a call that returns a list of at most 16 words.
+#[inline(never)]
+pub fn write_list<O: Sink>(raised: u32, words: &[u32], out: &mut O) -> Result<(), Failed>
+    requires { length words.now ≤ 16 }
+    ensures bytes { Sends (O.held out.old) (O.held out.new) result
+        (reply_encoding (record { raised = raised; value = Values.List words.now })) }
+    ensures cause { HasCause (O.faults out.old) (O.faults out.new) result }
+{
+    let mut bytes = [0u8; 64];
+    let n = fill_words(words, &mut bytes);
+    write_after_words(raised, TAG_LIST, words.len() as u32, &bytes[..n], out)
+}
+
+/// Writes a reply's bytes: the code raised, the value's tag, and the value (this project's own format). Failed
+/// comes only where the sink's number of faults rose; then a prefix of the bytes was written.
 pub fn write_reply<O: Sink>(reply: &Reply, out: &mut O) -> Result<(), Failed>
     ensures bytes { Sends (O.held out.old) (O.held out.new) result (reply_encoding reply.now) }
     ensures cause { HasCause (O.faults out.old) (O.faults out.new) result }
 {
     let raised = reply.raised;
     match reply.value {
-        Value::Nothing => write_all(&two_words(raised, TAG_NOTHING), out),
-        Value::Number(n) => write_all(&three_words(raised, TAG_NUMBER, n), out),
-        Value::List(list) => {
-            let words = list.as_slice();
-            let mut bytes = [0u8; 64];
-            let n = fill_words(words, &mut bytes);
-            write_after_words(raised, TAG_LIST, words.len() as u32, &bytes[..n], out)
-        }
+        Value::Nothing => write_nothing(raised, out),
+        Value::Number(n) => write_number(raised, n, out),
+        Value::List(list) => write_list(raised, list.as_slice(), out),
         Value::Text(name) => {
             let bytes = name.as_slice();
             write_after_words(raised, TAG_TEXT, bytes.len() as u32, bytes, out)

@@ -54,7 +54,7 @@ impl BufferOperation {
     ];
 
     /// The operation's row of the table.
-    #[inline(always)]
+    #[inline]
     pub fn row(self) -> Row
         ensures { IsRow result (buffer_row self) }
     {

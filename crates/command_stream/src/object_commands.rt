@@ -35,7 +35,7 @@ impl ObjectOperation {
     const ALL: [ObjectOperation; 2] = [ObjectOperation::MakeBuffer, ObjectOperation::DropBuffer];
 
     /// The operation's row of the table.
-    #[inline(always)]
+    #[inline]
     pub fn row(self) -> Row
         ensures { IsRow result (object_row self) }
     {

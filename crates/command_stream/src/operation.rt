@@ -32,7 +32,7 @@ pub enum Operation {
 
 impl Operation {
     /// The operation's row of the table.
-    #[inline(always)]
+    #[inline]
     fn row(self) -> Row
         ensures { IsRow result (row_of self) }
     {
@@ -43,7 +43,7 @@ impl Operation {
     }
 
     /// The number that stands for the operation in a command's header.
-    #[inline(always)]
+    #[inline]
     pub fn number(self) -> u32
         ensures { result ≡ number_of self }
     {
@@ -51,7 +51,7 @@ impl Operation {
     }
 
     /// The operation of this number; None exactly where the table has none.
-    #[inline(always)]
+    #[inline]
     pub fn numbered(n: u32) -> Option<Self>
         ensures found { result ≡ operation_numbered n }
         ensures number { IfSome result (λ operation. number_of operation ≡ n) }
@@ -62,7 +62,7 @@ impl Operation {
     }
 
     /// Whether a body of `len` bytes is one of this operation's.
-    #[inline(always)]
+    #[inline]
     pub fn allows(self, len: u32) -> bool
         ensures { result ≡ allows self len }
     {

@@ -42,7 +42,7 @@ pub enum Taken {
 }
 
 /// Copies the piece after the first `held` bytes.
-#[inline(always)]
+#[inline]
 pub fn hold(bytes: &mut [u8], held: usize, piece: &[u8])
     requires { held + length piece.now ≤ length bytes.old }
     ensures size { length bytes.new ≡ length bytes.old }

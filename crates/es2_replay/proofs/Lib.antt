@@ -1,3 +1,4 @@
+pub mod Zeros
 pub mod Slots
 pub mod Names
 pub mod Replaying

@@ -40,7 +40,7 @@ changed change name objects = placed (option_map change (objects name)) name obj
 -- a buffer after a change
 abbrev pub changed_by : Change → Buffer → Buffer
 changed_by (Target target) buffer = take_target (Some target) buffer
-changed_by (Data usage bytes) buffer = take_data usage bytes.items buffer
+changed_by (Data usage bytes) buffer = take_data usage bytes buffer
 changed_by (Patch offset bytes) buffer = patch offset bytes.now buffer
 
 -- a change that a buffer can take: bytes that are written over its own lie inside it

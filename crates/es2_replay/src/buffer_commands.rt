@@ -10,6 +10,7 @@ ghost use Rattle.es2_replay.specs.Applied.{Acts};
 
 use crate::buffer_object::{BufferObject, Change};
 use crate::machine::Machine;
+use crate::storage::Storage;
 use command_stream::BufferCommand;
 use gl_numbers::{BUFFER_BYTES_MAX, BufferTarget, GlError, Memory, Usage};
 
@@ -122,7 +123,7 @@ impl Machine {
         let Some(buffer) = self.bound_buffer(target) else {
             return Some(GlError::Operation);
         };
-        if offset as usize + bytes.len() > buffer.bytes().len() {
+        if offset as usize + bytes.len() > buffer.size() {
             return Some(GlError::Value);
         }
         None
@@ -146,7 +147,7 @@ impl Machine {
         ensures unchanged { OnErr result (self.new ≡ self.old) }
         ensures count { self.new.count ≡ self.old.count }
     {
-        let Ok(zeros) = vec![in self.alloc; 0u8; size as usize] else {
+        let Ok(zeros) = Storage::zeros(self.alloc, size as usize) else {
             return Err(Memory);
         };
         let Some(name) = self.bound_to(target) else {

@@ -2,6 +2,7 @@ ghost use Rattle.std.specs.Prelude.{◌≡◌, ◌+◌, ◌≤◌, Some, length}
 ghost use Rattle.gl_model.specs.Buffers.{new_buffer, take_target, take_data, patch};
 ghost use Rattle.es2_replay.specs.Named.{changed_by, Fits};
 
+use crate::storage::Storage;
 use gl_numbers::{BufferTarget, Usage};
 use std::alloc::Global;
 use std::marker::Model;
@@ -12,7 +13,7 @@ pub enum Change<'a> {
     /// It takes a target, where it has none.
     Target(BufferTarget),
     /// It takes new bytes in place of its own, and the usage of a word.
-    Data { usage: u32, bytes: Vec<u8> },
+    Data { usage: u32, bytes: Storage },
     /// Bytes are written over its own, from an offset on.
     Patch { offset: usize, bytes: &'a [u8] },
 }
@@ -22,7 +23,7 @@ pub enum Change<'a> {
 pub struct BufferObject {
     first_target: Option<BufferTarget>,
     usage: Usage,
-    bytes: Vec<u8>,
+    bytes: Storage,
 }
 
 impl Model for BufferObject {
@@ -30,7 +31,7 @@ impl Model for BufferObject {
 
     ghost Value = { Buffer };
 
-    ghost view = { λ b. record { first_target = b.first_target; usage = b.usage; bytes = b.bytes.items } };
+    ghost view = { λ b. record { first_target = b.first_target; usage = b.usage; bytes = b.bytes } };
 }
 
 impl BufferObject {
@@ -41,7 +42,7 @@ impl BufferObject {
         BufferObject {
             first_target: None,
             usage: Usage::StaticDraw,
-            bytes: Vec::new(alloc),
+            bytes: Storage::none(alloc),
         }
     }
 
@@ -52,11 +53,12 @@ impl BufferObject {
         self.first_target
     }
 
-    /// Its bytes.
-    pub fn bytes(&self) -> &[u8]
-        ensures { result.now ≡ self.now.bytes }
+    /// How many bytes it has.
+    #[inline(always)]
+    pub fn size(&self) -> usize
+        ensures { result ≡ length self.now.bytes }
     {
-        self.bytes.as_slice()
+        self.bytes.len()
     }
 
     /// Takes a change.
@@ -82,8 +84,8 @@ impl BufferObject {
 
     /// Takes new bytes in place of its own, and the usage of a word.
     #[inline]
-    fn take_data(&mut self, usage: u32, bytes: Vec<u8>)
-        ensures { self.new ≡ take_data usage bytes.items self.old }
+    fn take_data(&mut self, usage: u32, bytes: Storage)
+        ensures { self.new ≡ take_data usage bytes self.old }
     {
         self.usage = Usage::from_u32(usage).unwrap_or(self.usage);
         self.bytes = bytes;
@@ -95,6 +97,12 @@ impl BufferObject {
         requires { offset + length part.now ≤ length self.old.bytes }
         ensures { self.new ≡ patch offset part.now self.old }
     {
-        self.bytes[offset..offset + part.len()].copy_from_slice(part);
+        self.bytes.write(offset, part);
+    }
+
+    /// Whether these are its bytes.
+    #[cfg(test)]
+    pub fn holds(&self, bytes: &[u8]) -> bool {
+        self.bytes.holds(bytes)
     }
 }

@@ -87,7 +87,7 @@ impl ByName {
     }
 
     /// Changes the buffer of a name, where it is made.
-    #[inline]
+    #[inline(always)]
     pub fn change(&mut self, name: u32, change: Change<'_>)
         requires { IfSome (named self.old name) (Fits change) }
         ensures { named self.new ≡ changed (changed_by change.entry) name (named self.old) }
@@ -119,7 +119,7 @@ fn reach(slots: &mut Vec<Option<BufferObject>>, name: u32) -> Result<(), Memory>
 }
 
 /// Changes the buffer in the slot of a name, where there is one.
-#[inline]
+#[inline(always)]
 #[tactic(auto, using(crate::proofs::Slots::of_slots))]
 fn change_slot(slots: &mut Vec<Option<BufferObject>>, name: u32, change: Change<'_>)
     requires { IfSome (slot slots.old.items name) (Fits change) }

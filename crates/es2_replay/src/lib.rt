@@ -9,6 +9,7 @@ mod by_name;
 mod faults;
 mod machine;
 mod object_commands;
+mod storage;
 
 pub use faults::{Fault, Shot};
 pub use machine::Machine;

@@ -1,5 +1,5 @@
 -- What the context did with a call, from what the call did to the stores and what was sent.
-use Rattle.std.proofs.Common.{◌≡◌, ℕ, Bool, true, false, Option, Some, None, List, [], Err, refl, sym, ap, ◌∙◌, inl, inr}
+use Rattle.std.proofs.Common.{◌≡◌, ℕ, Bool, true, false, Option, Some, None, List, [], Result, Ok, Err, refl, sym, ap, ◌∙◌, inl, inr}
 use Rattle.std.specs.Prelude.{◌==◌}
 use Rattle.std.specs.Io.KnownBytes.{append_known}
 use Rattle.std.proofs.lemmas.List.Elements.{All-nil}
@@ -46,7 +46,9 @@ use Rattle.gl_context.specs.Sent.{sent}
 use Rattle.gl_context.specs.Follows.{IsGood}
 use Rattle.gl_context.specs.Deeds.{HasReason}
 use Rattle.gl_context.specs.Stands.{Kept, Keeps, IsSound, Agrees, Stands}
-use Rattle.gl_context.specs.Steps.{bytes_of, Steps, Stops}
+use Rattle.gl_context.specs.Steps.{bytes_of, Steps, Stops, Replies, RepliesOrStops}
+use Rattle.wire_io.specs.declared.status.Failed.{Failed}
+use Rattle.call_records.specs.Replies.{reply_encoding}
 use Rattle.gl_context.specs.declared.context.WriteFault.{WriteFault}
 use Rattle.gl_context.proofs.SentBytes.{nothing_sent, bind_words}
 use Rattle.gl_context.proofs.Following.{good-quiet, good-create, good-delete, good-bind, good-data, good-sub_data}
@@ -176,3 +178,10 @@ stops-acted w g c before commands old new failed s fits unrefused sends cut =
       replayed = rw (acted, sends) good.follows.replayed;
       exact = sends ∙ sym (ap (λ (r : Stepped). r.sends) acted);
     }
+
+-- a reply that was written, whole or in part
+pub replied : (w : PageState) (g : DriverState) (call : Call) (kept : Kept) (stream0 stream out0 out : Option (List ℕ)) (reply : Reply)
+    (result : Result (Unit {0}) Failed) → Steps w g call kept stream0 stream reply → Sends out0 out result (reply_encoding reply)
+    → RepliesOrStops w g call kept stream0 stream out0 out result
+replied w g call kept stream0 stream out0 out reply (Ok u) steps written = record { reply = reply; steps = steps; written = written }
+replied w g call kept stream0 stream out0 out reply (Err e) steps written = inl (record { reply = reply; steps = steps; written = written })

@@ -1,9 +1,11 @@
 -- What the context does with one call, seen from the page's and the driver's states that it stands for.
-use Rattle.std.specs.Prelude.{◌≡◌, ℕ, true, false, Option, List, Result, Ok, Err, All}
+use Rattle.std.specs.Prelude.{◌≡◌, ◌⊎◌, ℕ, true, false, Option, List, Result, Ok, Err, All}
 use Rattle.std.specs.List.{flat_map}
 use Rattle.std.specs.Option.{option_to_list}
 use Rattle.std.specs.Io.KnownBytes.{append_known}
 use Rattle.wire_io.specs.Sinks.{Sends}
+use Rattle.wire_io.specs.declared.status.Failed.{Failed}
+use Rattle.call_records.specs.Replies.{reply_encoding}
 use Rattle.call_records.specs.declared.calls.Call.{Call}
 use Rattle.call_records.specs.declared.replies.Reply.{Reply}
 use Rattle.command_stream.specs.declared.command.Command.{Command}
@@ -46,3 +48,28 @@ pub record Stops (w : PageState) (g : DriverState) (call : Call) (old new : Opti
 abbrev pub StepsOrStops : PageState → DriverState → Call → Kept → Option (List ℕ) → Option (List ℕ) → Result Reply WriteFault → Type 0
 StepsOrStops w g call kept old new (Ok reply) = Steps w g call kept old new reply
 StepsOrStops w g call kept old new (Err failed) = Stops w g call old new failed
+
+-- a result with something else in place of its value
+abbrev pub map_ok : {T U E : Type 0} → (T → U) → Result T E → Result U E
+map_ok f (Ok x) = Ok (f x)
+map_ok f (Err e) = Err e
+
+-- a call was answered by the page's step, its commands were sent, and its reply was written, or a prefix of it where a write failed
+pub record Replies (w : PageState) (g : DriverState) (call : Call) (kept : Kept) (stream0 stream out0 out : Option (List ℕ))
+    (result : Result (Unit {0}) Failed) : Type 0 where
+  pub reply : Reply
+  pub steps : Steps w g call kept stream0 stream reply
+  pub written : Sends out0 out result (reply_encoding reply)
+
+-- a write of the commands failed, and nothing was written of the reply
+pub record StopsUnreplied (w : PageState) (g : DriverState) (call : Call) (stream0 stream out0 out : Option (List ℕ)) : Type 0 where
+  pub failed : WriteFault
+  pub stops : Stops w g call stream0 stream failed
+  pub unwritten : out ≡ out0
+
+-- a call was answered and its reply written, or a write failed
+abbrev pub RepliesOrStops : PageState → DriverState → Call → Kept → Option (List ℕ) → Option (List ℕ) → Option (List ℕ) → Option (List ℕ)
+    → Result (Unit {0}) Failed → Type 0
+RepliesOrStops w g call kept stream0 stream out0 out (Ok done) = Replies w g call kept stream0 stream out0 out (Ok done)
+RepliesOrStops w g call kept stream0 stream out0 out (Err failed) =
+    Replies w g call kept stream0 stream out0 out (Err failed) ⊎ StopsUnreplied w g call stream0 stream out0 out

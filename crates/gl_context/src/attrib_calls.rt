@@ -2,37 +2,39 @@ ghost use Rattle.std.specs.Prelude.{◌≡◌, IfOk};
 ghost use Rattle.gl_model.specs.PageState.{PageState};
 ghost use Rattle.gl_context.specs.AttribRows.{array_row, attrib_row, constant_row, offset_of, offset_row, parameter_of, parameter_row, pointer_row};
 ghost use Rattle.gl_context.specs.Stands.{Keeps};
-ghost use Rattle.gl_context.specs.Deeds.{ActsBy, CanSend};
+ghost use Rattle.gl_context.specs.Deeds.{ActsBy, CanSend, value_in};
 
 use crate::context::Context;
-use crate::deed::Deed;
-use crate::values::{list, truth};
+use crate::deed::{Deed, Told};
+use crate::values::truth;
 use attrib_state::{Attrib, Pointer};
-use call_records::{AttribCall, Value};
+use call_records::AttribCall;
 use gl_numbers::{AttribParameter, BufferTarget, GlError, VERTEX_ATTRIB_ARRAY_POINTER};
 
 /// A parameter of an attribute; no buffer is 0.
-fn parameter_of(attribute: &Attrib, parameter: AttribParameter) -> Value
-    ensures { result ≡ parameter_of parameter attribute.now }
+#[inline(always)]
+fn parameter_of(attribute: &Attrib, parameter: AttribParameter) -> Told
+    ensures { value_in result ≡ parameter_of parameter attribute.now }
 {
     match parameter {
         AttribParameter::Enabled => truth(attribute.enabled),
-        AttribParameter::Size => Value::Number(attribute.size),
-        AttribParameter::Stride => Value::Number(attribute.stride),
-        AttribParameter::ElementType => Value::Number(attribute.kind.word()),
-        AttribParameter::Current => list(&attribute.constant),
+        AttribParameter::Size => Told::Number(attribute.size),
+        AttribParameter::Stride => Told::Number(attribute.stride),
+        AttribParameter::ElementType => Told::Number(attribute.kind.word()),
+        AttribParameter::Current => Told::Four(attribute.constant),
         AttribParameter::Normalized => truth(attribute.normalized),
-        AttribParameter::BufferBinding => Value::Number(attribute.buffer.unwrap_or(0)),
+        AttribParameter::BufferBinding => Told::Number(attribute.buffer.unwrap_or(0)),
     }
 }
 
 /// The offset of an attribute's array in its buffer: its low word, and its high word.
-fn offset_of(attribute: &Attrib) -> Value
-    ensures { result ≡ offset_of attribute.now }
+#[inline(always)]
+fn offset_of(attribute: &Attrib) -> Told
+    ensures { value_in result ≡ offset_of attribute.now }
 {
     let low = attribute.offset % 0x1_0000_0000;
     let high = attribute.offset / 0x1_0000_0000;
-    list(&[low as u32, high as u32])
+    Told::Two([low as u32, high as u32])
 }
 
 impl Context {
@@ -80,7 +82,7 @@ impl Context {
         if let Err(error) = self.attributes.enable(index, on) {
             return Err(error);
         }
-        Ok(Deed::told(Value::Nothing))
+        Ok(Deed::told(Told::Nothing))
     }
 
     /// vertexAttribPointer (WebGL 1.0 section 5.14.10)
@@ -93,7 +95,7 @@ impl Context {
         if let Err(error) = self.attributes.pointer(bound, index, pointer) {
             return Err(error);
         }
-        Ok(Deed::told(Value::Nothing))
+        Ok(Deed::told(Told::Nothing))
     }
 
     /// vertexAttrib1f and its kin (WebGL 1.0 section 5.14.10)
@@ -105,7 +107,7 @@ impl Context {
         if let Err(error) = self.attributes.constant(index, words) {
             return Err(error);
         }
-        Ok(Deed::told(Value::Nothing))
+        Ok(Deed::told(Told::Nothing))
     }
 
     /// getVertexAttrib (WebGL 1.0 section 5.14.10)

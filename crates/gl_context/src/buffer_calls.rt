@@ -16,9 +16,9 @@ ghost use Rattle.gl_context.specs.Deeds.{ActsBy, CanSend, commands_in};
 ghost use Rattle.gl_context.specs.Found.{JudgesBindable};
 
 use crate::context::Context;
-use crate::deed::{Deed, Outgoing};
+use crate::deed::{Deed, Outgoing, Told};
 use buffer_store::Content;
-use call_records::{BufferCall, Fill, Value};
+use call_records::{BufferCall, Fill};
 use command_stream::{BufferCommand, Command};
 use gl_numbers::{
     BUFFER_BYTES_MAX, BUFFER_SIZE, BufferTarget, GlError, Handle, Kind, Usage, is_buffer_parameter,
@@ -26,6 +26,7 @@ use gl_numbers::{
 use object_names::Find;
 
 /// What a bufferData fills a buffer with, where a buffer can have it.
+#[inline(always)]
 fn content_of(fill: Fill<'_>) -> Option<Content<'_>>
     ensures { Fills fill.entry result }
 {
@@ -37,6 +38,7 @@ fn content_of(fill: Fill<'_>) -> Option<Content<'_>>
 }
 
 /// An offset that isn't negative, and no more than a buffer has bytes, as a word.
+#[inline(always)]
 fn offset_word(offset: i64) -> u32
     requires positive { is_negative offset ≡ false }
     requires small { whole offset ≤ buffer_bytes_max }
@@ -47,6 +49,7 @@ fn offset_word(offset: i64) -> u32
 
 /// The command that writes bytes into the bound buffer, from an offset on, where there are any.
 #[tactic(auto, using(crate::proofs::SentBytes::allowed_bytes))]
+#[inline(always)]
 fn part_sent(target: u32, offset: u32, bytes: &[u8]) -> Outgoing<'_>
     requires { 8 + length bytes.now ≤ 16777280 }
     ensures commands { commands_in result ≡ part_sent target offset bytes.entry }
@@ -64,6 +67,7 @@ fn part_sent(target: u32, offset: u32, bytes: &[u8]) -> Outgoing<'_>
 
 /// The commands that give the bound buffer its content: the size, and then the bytes where there are any.
 #[tactic(auto, using(crate::proofs::SentBytes::allowed_size, crate::proofs::SentBytes::allowed_bytes))]
+#[inline(always)]
 fn content_sent(target: u32, usage: u32, content: Content<'_>) -> Outgoing<'_>
     requires { HasRoom content }
     ensures commands { commands_in result ≡ content_sent target usage content.entry }
@@ -93,6 +97,7 @@ fn content_sent(target: u32, usage: u32, content: Content<'_>) -> Outgoing<'_>
 
 impl Context {
     /// The calls on buffers.
+    #[inline(always)]
     pub(crate) fn buffer<'a>(&mut self, call: &BufferCall<'a>) -> Result<Deed<'a>, GlError>
         requires { Fits (Buffer call.now) }
         ensures acts { (w : PageState) → Keeps self.old w → IsSound w → ActsBy (buffer_row w call.now) w self.new result }
@@ -118,6 +123,7 @@ impl Context {
     }
 
     /// What a handle binds, none for 0, and the driver's name of it.
+    #[inline(always)]
     fn bindable(&self, handle: Handle) -> Result<(Option<Handle>, u32), GlError>
         ensures there { IfOk result (λ b. ForSome b.0 (λ h. IsSome (get self.now.buffers.buffers h))) }
         ensures bound { IfOk result (λ b. (b.0 ≡ non_zero handle) × (b.1 ≡ bound_name handle)) }
@@ -132,6 +138,7 @@ impl Context {
 
     /// bindBuffer (WebGL 1.0 section 5.14.5)
     #[tactic(auto, using(crate::proofs::SentBytes::allowed_bind))]
+    #[inline(always)]
     fn bind_buffer<'a>(&mut self, target: u32, handle: Handle) -> Result<Deed<'a>, GlError>
         ensures acts { (w : PageState) → Keeps self.old w → IsSound w → ActsBy (bind_row w target handle) w self.new result }
         ensures sendable { IfOk result (λ deed. CanSend deed.outgoing) }
@@ -148,13 +155,14 @@ impl Context {
             return Err(error);
         }
         Ok(Deed {
-            value: Value::Nothing,
+            told: Told::Nothing,
             outgoing: Outgoing::One(Command::Buffer(BufferCommand::BindBuffer { target, name })),
         })
     }
 
     /// bufferData (WebGL 1.0 section 5.14.5)
     #[tactic(auto, using(crate::proofs::SentBytes::bytes_fit))]
+    #[inline(always)]
     fn buffer_data<'a>(
         &mut self,
         target: u32,
@@ -176,13 +184,14 @@ impl Context {
             return Err(error);
         }
         Ok(Deed {
-            value: Value::Nothing,
+            told: Told::Nothing,
             outgoing: content_sent(target, usage, content),
         })
     }
 
     /// bufferSubData (WebGL 1.0 section 5.14.5)
     #[tactic(auto, using(crate::proofs::SentBytes::part_fit))]
+    #[inline(always)]
     fn buffer_sub_data<'a>(
         &mut self,
         target: u32,
@@ -202,12 +211,13 @@ impl Context {
             return Err(error);
         }
         Ok(Deed {
-            value: Value::Nothing,
+            told: Told::Nothing,
             outgoing: part_sent(target, offset_word(offset), bytes),
         })
     }
 
     /// getBufferParameter (WebGL 1.0 section 5.14.5)
+    #[inline(always)]
     fn buffer_parameter<'a>(&mut self, target: u32, name: u32) -> Result<Deed<'a>, GlError>
         ensures acts { (w : PageState) → Keeps self.old w → IsSound w → ActsBy (parameter_row w target name) w self.new result }
         ensures sendable { IfOk result (λ deed. CanSend deed.outgoing) }
@@ -222,10 +232,11 @@ impl Context {
         let Some(handle) = self.buffers.bound(to) else {
             return Err(GlError::Operation);
         };
-        Ok(Deed::told(Value::Number(self.parameter(handle, name))))
+        Ok(Deed::told(Told::Number(self.parameter(handle, name))))
     }
 
     /// The size in bytes of a buffer that is there, or the word of its usage.
+    #[inline(always)]
     fn parameter(&self, handle: Handle, name: u32) -> u32
         requires { IsSome (get self.now.buffers.buffers handle) }
         ensures { IfSome (get self.now.buffers.buffers handle)

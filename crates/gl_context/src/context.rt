@@ -1,4 +1,4 @@
-ghost use Rattle.std.specs.Prelude.{◌≡◌, ◌≤◌, ◌↔◌, false, true, IsOk, IfOk, IsTrue, OnErr};
+ghost use Rattle.std.specs.Prelude.{◌≡◌, ◌≤◌, ◌↔◌, ◌⊎◌, false, true, IsOk, IfOk, IsTrue, OnOk, OnErr};
 ghost use Rattle.std.specs.Io.KnownBytes.{append_known};
 ghost use Rattle.gl_numbers.specs.Errors.{code_of};
 ghost use Rattle.gl_model.specs.Errors.{raise};
@@ -11,17 +11,18 @@ ghost use Rattle.call_records.specs.declared.replies.Value.TheVariants.{Nothing}
 ghost use Rattle.command_stream.specs.Commands.{stream_start};
 ghost use Rattle.gl_context.specs.PageStep.{row_of};
 ghost use Rattle.gl_context.specs.Stands.{Keeps, IsSound, Stands};
-ghost use Rattle.gl_context.specs.Deeds.{ActsBy, CanSend};
-ghost use Rattle.gl_context.specs.Steps.{StepsOrStops};
+ghost use Rattle.gl_context.specs.Deeds.{ActsBy, CanSend, reply_of};
+ghost use Rattle.gl_context.specs.Steps.{StepsOrStops, RepliesOrStops, map_ok};
+ghost use Rattle.call_records.specs.Replies.{reply_encoding};
 ghost use Rattle.gl_context.specs.Opening.{Opens};
 
-use crate::deed::Deed;
+use crate::deed::{Answer, Deed, Told};
 use crate::errors::ErrorFlags;
 use crate::pixels::Pixels;
 use crate::sending::send;
 use attrib_state::Attribs;
 use buffer_store::Buffers;
-use call_records::{Call, Reply, Value};
+use call_records::{Call, write_list, write_nothing, write_number};
 use command_stream::write_start;
 use gl_numbers::{GlError, NO_ERROR};
 use object_names::Names;
@@ -103,25 +104,28 @@ impl Context {
     }
 
     /// Whether a write failed. Then the context isn't used again.
+    #[inline(always)]
     pub fn failed(&self) -> bool
         ensures { result ≡ self.now.failed }
     {
         self.failed
     }
 
-    /// Takes an error into the flags, and replies with it.
-    fn raise(&mut self, error: GlError) -> Reply
+    /// Takes an error into the flags, and answers with it.
+    #[inline(always)]
+    fn raise(&mut self, error: GlError) -> Answer
         ensures kept { self.new ≡ record self.old { errors = raise error self.old.errors } }
-        ensures reply { result ≡ record { raised = code_of error; value = Nothing } }
+        ensures reply { reply_of result ≡ record { raised = code_of error; value = Nothing } }
     {
         self.errors.raise(error);
-        Reply {
+        Answer {
             raised: error.code(),
-            value: Value::Nothing,
+            told: Told::Nothing,
         }
     }
 
     /// Judges a call, and acts on the stores where nothing refuses it.
+    #[inline(always)]
     fn act<'a>(&mut self, call: &Call<'a>) -> Result<Deed<'a>, GlError>
         requires { Fits call.now }
         ensures acts { (w : PageState) → Keeps self.old w → IsSound w → ActsBy (row_of w call.now) w self.new result }
@@ -139,24 +143,18 @@ impl Context {
         }
     }
 
-    /// Answers a call by the page's step, and sends its commands to the driver; `steps` counts the blocks and cells of
-    /// index bytes that are read. WriteFault comes only where the stream's number of faults rose; then a prefix of the
-    /// commands was sent.
-    pub fn apply<S: Sink, L: Ledger>(
-        &mut self,
-        call: &Call<'_>,
-        stream: &mut S,
-        steps: &mut Steps<L>,
-    ) -> Result<Reply, WriteFault>
+    /// Takes the page's step for a call, and sends its commands to the driver. WriteFault comes only where the stream's number
+    /// of faults rose; then a prefix of the commands was sent.
+    #[inline(always)]
+    fn apply<S: Sink>(&mut self, call: &Call<'_>, stream: &mut S) -> Result<Answer, WriteFault>
         requires working { self.old.failed ≡ false }
         requires fits { Fits call.now }
         ensures steps { (w : PageState) (g : DriverState) → Stands self.old w g
-            → StepsOrStops w g call.now self.new (S.held stream.old) (S.held stream.new) result }
+            → StepsOrStops w g call.now self.new (S.held stream.old) (S.held stream.new) (map_ok reply_of result) }
         ensures cause { HasCause (S.faults stream.old) (S.faults stream.new) result }
         ensures failed { IsOk result ↔ (self.new.failed ≡ false) }
-        ensures ticks { steps.new ≡ steps.old }
     {
-        let Deed { value, outgoing } = match self.act(call) {
+        let Deed { told, outgoing } = match self.act(call) {
             Ok(deed) => deed,
             Err(error) => return Ok(self.raise(error)),
         };
@@ -164,9 +162,51 @@ impl Context {
             self.failed = true;
             return Err(WriteFault);
         };
-        Ok(Reply {
+        Ok(Answer {
             raised: NO_ERROR,
-            value,
+            told,
         })
+    }
+
+    /// Answers a call: takes the page's step, sends its commands to the driver, and then writes its reply; `steps` counts the
+    /// blocks and cells of index bytes that are read. Failed comes only where the number of faults of one of the sinks rose: then
+    /// a prefix of the commands was sent and no reply was written, or all of them were sent and a prefix of the reply was written.
+    #[inline(always)]
+    pub fn answer<O: Sink, S: Sink, L: Ledger>(
+        &mut self,
+        call: &Call<'_>,
+        out: &mut O,
+        stream: &mut S,
+        steps: &mut Steps<L>,
+    ) -> Result<(), Failed>
+        requires working { self.old.failed ≡ false }
+        requires fits { Fits call.now }
+        ensures steps { (w : PageState) (g : DriverState) → Stands self.old w g
+            → RepliesOrStops w g call.now self.new (S.held stream.old) (S.held stream.new) (O.held out.old) (O.held out.new) result }
+        ensures replies { O.faults out.old ≤ O.faults out.new }
+        ensures commands { S.faults stream.old ≤ S.faults stream.new }
+        ensures cause { OnErr result (Rose (O.faults out.old) (O.faults out.new) ⊎ Rose (S.faults stream.old) (S.faults stream.new)) }
+        ensures working { OnOk result (self.new.failed ≡ false) }
+        ensures ticks { steps.new ≡ steps.old }
+    {
+        let Ok(answer) = self.apply(call, stream) else {
+            return Err(Failed);
+        };
+        write_answer(answer, out)
+    }
+}
+
+/// Writes the reply of an answer.
+#[inline(always)]
+fn write_answer<O: Sink>(answer: Answer, out: &mut O) -> Result<(), Failed>
+    ensures bytes { Sends (O.held out.old) (O.held out.new) result (reply_encoding (reply_of answer)) }
+    ensures cause { HasCause (O.faults out.old) (O.faults out.new) result }
+{
+    let raised = answer.raised;
+    match answer.told {
+        Told::Nothing => write_nothing(raised, out),
+        Told::Number(n) => write_number(raised, n, out),
+        Told::Two(words) => write_list(raised, &words, out),
+        Told::Four(words) => write_list(raised, &words, out),
     }
 }

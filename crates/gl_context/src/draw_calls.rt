@@ -5,8 +5,8 @@ ghost use Rattle.gl_context.specs.Stands.{Keeps};
 ghost use Rattle.gl_context.specs.Deeds.{ActsBy, CanSend};
 
 use crate::context::Context;
-use crate::deed::Deed;
-use call_records::{DrawCall, Value};
+use crate::deed::{Deed, Told};
+use call_records::DrawCall;
 use gl_numbers::GlError;
 
 impl Context {
@@ -16,7 +16,7 @@ impl Context {
         ensures sendable { IfOk result (λ deed. CanSend deed.outgoing) }
     {
         match call {
-            DrawCall::Finish { .. } => Ok(Deed::told(Value::Nothing)),
+            DrawCall::Finish { .. } => Ok(Deed::told(Told::Nothing)),
         }
     }
 }

@@ -73,6 +73,7 @@ impl ErrorFlags {
     }
 
     /// The error of the smallest code that is set.
+    #[inline(always)]
     fn smallest(&self) -> Option<GlError>
         ensures { result ≡ smallest self.now }
     {
@@ -92,6 +93,7 @@ impl ErrorFlags {
     }
 
     /// Returns the smallest code that is set, or 0, and clears its flag.
+    #[inline(always)]
     pub fn take(&mut self) -> u32
         ensures code { result ≡ option_map_or code_of (smallest self.old) 0 }
         ensures cleared { self.new ≡ clear_one (smallest self.old) self.old }

@@ -10,14 +10,15 @@ ghost use Rattle.gl_context.specs.Stands.{Keeps, IsSound, buffer_name};
 ghost use Rattle.gl_context.specs.Deeds.{ActsBy, CanSend};
 
 use crate::context::Context;
-use crate::deed::{Deed, Outgoing};
-use call_records::{New, ObjectCall, ObjectKind, Value};
+use crate::deed::{Deed, Outgoing, Told};
+use call_records::{New, ObjectCall, ObjectKind};
 use command_stream::{Command, ObjectCommand};
 use gl_numbers::{GlError, Handle, Kind};
 use object_names::{Create, Find};
 
 impl Context {
     /// The calls that make, delete and tell objects.
+    #[inline(always)]
     pub(crate) fn object<'a>(&mut self, call: &ObjectCall) -> Result<Deed<'a>, GlError>
         ensures acts { (w : PageState) → Keeps self.old w → IsSound w → ActsBy (object_row w call.now) w self.new result }
         ensures sendable { IfOk result (λ deed. CanSend deed.outgoing) }
@@ -38,6 +39,7 @@ impl Context {
 
     /// createBuffer (WebGL 1.0 section 5.14.5)
     #[tactic(auto, using(crate::proofs::SentBytes::allowed_make))]
+    #[inline(always)]
     fn create_buffer<'a>(&mut self) -> Result<Deed<'a>, GlError>
         ensures acts { (w : PageState) → Keeps self.old w → IsSound w → ActsBy (create_row w) w self.new result }
         ensures sendable { IfOk result (λ deed. CanSend deed.outgoing) }
@@ -53,12 +55,13 @@ impl Context {
         };
         self.names.create(Kind::Buffer);
         Ok(Deed {
-            value: Value::Number(handle),
+            told: Told::Number(handle),
             outgoing: Outgoing::One(Command::Object(ObjectCommand::MakeBuffer(name))),
         })
     }
 
     /// The driver's name of a live buffer.
+    #[inline(always)]
     pub(crate) fn buffer_name(&self, handle: Handle) -> u32
         requires { Finds self.now.names.objects handle kind.Buffer find.Live }
         ensures { result ≡ buffer_name handle }
@@ -67,6 +70,7 @@ impl Context {
     }
 
     /// Marks a live buffer, and takes it from all that it is bound to.
+    #[inline(always)]
     fn mark_buffer(&mut self, handle: Handle)
         requires { Finds self.old.names.objects handle kind.Buffer find.Live }
         ensures keeps { (w : PageState) → Keeps self.old w → is_live w kind.Buffer handle ≡ true
@@ -80,6 +84,7 @@ impl Context {
 
     /// deleteBuffer (WebGL 1.0 section 5.14.5)
     #[tactic(auto, using(crate::proofs::SentBytes::allowed_drop))]
+    #[inline(always)]
     fn delete_buffer<'a>(&mut self, handle: Handle) -> Result<Deed<'a>, GlError>
         ensures acts { (w : PageState) → Keeps self.old w → IsSound w → ActsBy (delete_row w object.Buffer handle) w self.new result }
         ensures sendable { IfOk result (λ deed. CanSend deed.outgoing) }
@@ -91,20 +96,21 @@ impl Context {
                 let name = self.buffer_name(handle);
                 self.mark_buffer(handle);
                 Ok(Deed {
-                    value: Value::Nothing,
+                    told: Told::Nothing,
                     outgoing: Outgoing::One(Command::Object(ObjectCommand::DropBuffer(name))),
                 })
             }
-            _ => Ok(Deed::told(Value::Nothing)),
+            _ => Ok(Deed::told(Told::Nothing)),
         }
     }
 
     /// isBuffer (WebGL 1.0 section 5.14.5)
+    #[inline(always)]
     fn is_buffer<'a>(&self, handle: Handle) -> Deed<'a>
         ensures acts { (w : PageState) → Keeps self.now w → ActsBy (is_kind_row w object.Buffer handle) w self.now (Ok result) }
         ensures sendable { CanSend result.outgoing }
     {
         let is_live = self.names.is_kind(handle, Kind::Buffer);
-        Deed::told(Value::Number(if is_live { 1 } else { 0 }))
+        Deed::told(Told::Number(if is_live { 1 } else { 0 }))
     }
 }

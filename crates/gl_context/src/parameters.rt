@@ -1,14 +1,17 @@
 ghost use Rattle.std.specs.Prelude.{◌≡◌, map};
+ghost use Rattle.call_records.specs.declared.replies.Value.TheVariants as Value;
 ghost use Rattle.gl_context.specs.Row.{number_of_truth};
+ghost use Rattle.gl_context.specs.Deeds.{value_in};
 ghost use Rattle.gl_context.specs.ParameterValues.{raster_value, word_of};
 
-use crate::values::{list, number_of_truth, truth};
-use call_records::Value;
+use crate::deed::Told;
+use crate::values::{number_of_truth, truth};
 use gl_numbers::RasterParameter;
 use raster_state::RasterWords;
 
 /// The word of the same 32 bits as a number with a sign.
 #[tactic(auto, unfolding(crate::specs::ParameterValues::word_of))]
+#[inline(always)]
 fn word_of(number: i32) -> u32
     ensures { result ≡ word_of number }
 {
@@ -16,19 +19,19 @@ fn word_of(number: i32) -> u32
 }
 
 /// Four numbers with a sign, each as the word of the same bits.
-fn signed_list(numbers: [i32; 4]) -> Value
-    ensures { result ≡ Value.List (map word_of numbers) }
+fn signed_list(numbers: [i32; 4]) -> Told
+    ensures { value_in result ≡ Value.List (map word_of numbers) }
 {
     let [x, y, width, height] = numbers;
-    list(&[word_of(x), word_of(y), word_of(width), word_of(height)])
+    Told::Four([word_of(x), word_of(y), word_of(width), word_of(height)])
 }
 
 /// Four truth values, each as 1 or 0.
-fn truth_list(truths: [bool; 4]) -> Value
-    ensures { result ≡ Value.List (map number_of_truth truths) }
+fn truth_list(truths: [bool; 4]) -> Told
+    ensures { value_in result ≡ Value.List (map number_of_truth truths) }
 {
     let [red, green, blue, alpha] = truths;
-    list(&[
+    Told::Four([
         number_of_truth(red),
         number_of_truth(green),
         number_of_truth(blue),
@@ -37,19 +40,20 @@ fn truth_list(truths: [bool; 4]) -> Value
 }
 
 /// Raster state as getParameter returns it (OpenGL ES 2.0 section 6.2).
-pub(crate) fn raster_value(parameter: RasterParameter, raster: &RasterWords) -> Value
-    ensures { result ≡ raster_value parameter raster.now }
+#[inline(always)]
+pub(crate) fn raster_value(parameter: RasterParameter, raster: &RasterWords) -> Told
+    ensures { value_in result ≡ raster_value parameter raster.now }
 {
     match parameter {
-        RasterParameter::CullSide => Value::Number(raster.cull_side),
-        RasterParameter::Winding => Value::Number(raster.winding),
+        RasterParameter::CullSide => Told::Number(raster.cull_side),
+        RasterParameter::Winding => Told::Number(raster.winding),
         RasterParameter::DepthMask => truth(raster.depth_mask),
-        RasterParameter::DepthFunc => Value::Number(raster.depth_func),
-        RasterParameter::ClearStencil => Value::Number(word_of(raster.clear_stencil)),
+        RasterParameter::DepthFunc => Told::Number(raster.depth_func),
+        RasterParameter::ClearStencil => Told::Number(word_of(raster.clear_stencil)),
         RasterParameter::Viewport => signed_list(raster.viewport),
         RasterParameter::Scissor => signed_list(raster.scissor),
-        RasterParameter::ClearColor => list(&raster.clear_color),
+        RasterParameter::ClearColor => Told::Four(raster.clear_color),
         RasterParameter::ColorMask => truth_list(raster.color_mask),
-        RasterParameter::BlendColor => list(&raster.blend_color),
+        RasterParameter::BlendColor => Told::Four(raster.blend_color),
     }
 }

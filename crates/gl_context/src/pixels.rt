@@ -34,6 +34,7 @@ impl Model for Pixels {
 }
 
 /// An alignment in bytes, where the number is one: 1, 2, 4 or 8.
+#[inline(always)]
 fn alignment(value: i32) -> Option<u32>
     ensures { result ≡ (if is_alignment value then Some (whole value) else None) }
 {
@@ -44,6 +45,7 @@ fn alignment(value: i32) -> Option<u32>
 }
 
 /// How colour spaces are converted, where the number says so.
+#[inline(always)]
 fn conversion(value: i32) -> Option<u32>
     ensures { result ≡ (if is_conversion value then Some (whole value) else None) }
 {
@@ -100,6 +102,7 @@ impl Pixels {
     }
 
     /// A parameter, as getParameter returns it; 1 is true, 0 is false.
+    #[inline(always)]
     pub fn word(&self, parameter: PixelParameter) -> u32
         ensures { result ≡ pixel_word parameter self.now }
     {

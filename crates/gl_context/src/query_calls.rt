@@ -3,17 +3,18 @@ ghost use Rattle.gl_model.specs.PageState.{PageState};
 ghost use Rattle.gl_context.specs.QueryRows.{error_row, is_enabled_row, parameter_row, query_row};
 ghost use Rattle.gl_context.specs.ParameterValues.{parameter_value};
 ghost use Rattle.gl_context.specs.Stands.{Keeps};
-ghost use Rattle.gl_context.specs.Deeds.{ActsBy, CanSend};
+ghost use Rattle.gl_context.specs.Deeds.{ActsBy, CanSend, value_in};
 
 use crate::context::Context;
-use crate::deed::Deed;
+use crate::deed::{Deed, Told};
 use crate::parameters::raster_value;
 use crate::values::truth;
-use call_records::{QueryCall, Value};
+use call_records::QueryCall;
 use gl_numbers::{Capability, GlError, Parameter};
 
 impl Context {
     /// The calls that ask for the state of the context.
+    #[inline(always)]
     pub(crate) fn query<'a>(&mut self, call: &QueryCall) -> Result<Deed<'a>, GlError>
         ensures acts { (w : PageState) → Keeps self.old w → ActsBy (query_row w call.now) w self.new result }
         ensures sendable { IfOk result (λ deed. CanSend deed.outgoing) }
@@ -27,6 +28,7 @@ impl Context {
     }
 
     /// isEnabled (WebGL 1.0 section 5.14.3)
+    #[inline(always)]
     fn is_enabled<'a>(&self, word: u32) -> Result<Deed<'a>, GlError>
         ensures acts { (w : PageState) → Keeps self.now w → ActsBy (is_enabled_row w word) w self.now result }
         ensures sendable { IfOk result (λ deed. CanSend deed.outgoing) }
@@ -39,27 +41,30 @@ impl Context {
     }
 
     /// getError (WebGL 1.0 section 5.14.3)
+    #[inline(always)]
     fn get_error<'a>(&mut self) -> Deed<'a>
         ensures acts { (w : PageState) → Keeps self.old w → ActsBy (error_row w) w self.new (Ok result) }
         ensures sendable { CanSend result.outgoing }
         ensures failed { self.new.failed ≡ self.old.failed }
     {
-        Deed::told(Value::Number(self.errors.take()))
+        Deed::told(Told::Number(self.errors.take()))
     }
 
     /// What the state has for a parameter; no buffer is 0.
-    fn parameter_value(&self, parameter: Parameter) -> Value
-        ensures { (w : PageState) → Keeps self.now w → result ≡ parameter_value w parameter }
+    #[inline(always)]
+    fn parameter_value(&self, parameter: Parameter) -> Told
+        ensures { (w : PageState) → Keeps self.now w → value_in result ≡ parameter_value w parameter }
     {
         match parameter {
-            Parameter::Bound(target) => Value::Number(self.buffers.bound(target).unwrap_or(0)),
-            Parameter::Pixel(parameter) => Value::Number(self.pixels.word(parameter)),
+            Parameter::Bound(target) => Told::Number(self.buffers.bound(target).unwrap_or(0)),
+            Parameter::Pixel(parameter) => Told::Number(self.pixels.word(parameter)),
             Parameter::Raster(parameter) => raster_value(parameter, self.raster.words()),
-            Parameter::Limit(limit) => Value::Number(limit.value()),
+            Parameter::Limit(limit) => Told::Number(limit.value()),
         }
     }
 
     /// getParameter (WebGL 1.0 section 5.14.3)
+    #[inline(always)]
     fn get_parameter<'a>(&self, name: u32) -> Result<Deed<'a>, GlError>
         ensures acts { (w : PageState) → Keeps self.now w → ActsBy (parameter_row w name) w self.now result }
         ensures sendable { IfOk result (λ deed. CanSend deed.outgoing) }

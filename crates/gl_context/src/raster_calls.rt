@@ -5,8 +5,8 @@ ghost use Rattle.gl_context.specs.Stands.{Keeps};
 ghost use Rattle.gl_context.specs.Deeds.{ActsBy, CanSend};
 
 use crate::context::Context;
-use crate::deed::Deed;
-use call_records::{RasterCall, Value};
+use crate::deed::{Deed, Told};
+use call_records::RasterCall;
 use gl_numbers::GlError;
 
 impl Context {
@@ -17,7 +17,7 @@ impl Context {
         ensures failed { self.new.failed ≡ self.old.failed }
     {
         match self.raster.apply(call) {
-            Ok(()) => Ok(Deed::told(Value::Nothing)),
+            Ok(()) => Ok(Deed::told(Told::Nothing)),
             Err(error) => Err(error),
         }
     }

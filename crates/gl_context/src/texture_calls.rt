@@ -5,8 +5,8 @@ ghost use Rattle.gl_context.specs.Stands.{Keeps};
 ghost use Rattle.gl_context.specs.Deeds.{ActsBy, CanSend};
 
 use crate::context::Context;
-use crate::deed::Deed;
-use call_records::{TextureCall, Value};
+use crate::deed::{Deed, Told};
+use call_records::TextureCall;
 use gl_numbers::{GlError, PixelParameter};
 
 impl Context {
@@ -33,6 +33,6 @@ impl Context {
         if let Err(error) = self.pixels.set(parameter, value) {
             return Err(error);
         }
-        Ok(Deed::told(Value::Nothing))
+        Ok(Deed::told(Told::Nothing))
     }
 }

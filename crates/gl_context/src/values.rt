@@ -1,10 +1,12 @@
-ghost use Rattle.std.specs.Prelude.{◌≡◌, ◌≤◌, length};
+ghost use Rattle.std.specs.Prelude.{◌≡◌};
+ghost use Rattle.call_records.specs.declared.replies.Value.TheVariants as Value;
 ghost use Rattle.gl_context.specs.Row.{number_of_truth};
+ghost use Rattle.gl_context.specs.Deeds.{value_in};
 
-use call_records::Value;
-use gl_numbers::Words;
+use crate::deed::Told;
 
 /// 1 for what is so, 0 for what isn't.
+#[inline(always)]
 pub(crate) fn number_of_truth(truth: bool) -> u32
     ensures { result ≡ number_of_truth truth }
 {
@@ -12,19 +14,9 @@ pub(crate) fn number_of_truth(truth: bool) -> u32
 }
 
 /// The same as a value.
-pub(crate) fn truth(truth: bool) -> Value
-    ensures { result ≡ Value.Number (number_of_truth truth) }
+#[inline(always)]
+pub(crate) fn truth(truth: bool) -> Told
+    ensures { value_in result ≡ Value.Number (number_of_truth truth) }
 {
-    Value::Number(number_of_truth(truth))
-}
-
-/// A value of at most 16 words.
-pub(crate) fn list(words: &[u32]) -> Value
-    requires { length words.now ≤ 16 }
-    ensures { result ≡ Value.List words.now }
-{
-    match Words::new(words) {
-        Some(words) => Value::List(words),
-        None => unreachable!(),
-    }
+    Told::Number(number_of_truth(truth))
 }

@@ -37,6 +37,7 @@ impl Model for Entry {
 
 impl Entry {
     /// An object that was just made.
+    #[inline]
     pub(crate) fn new(kind: Kind) -> Entry
         ensures { result ≡ new_object kind }
     {
@@ -48,6 +49,7 @@ impl Entry {
     }
 
     /// Its kind.
+    #[inline]
     pub(crate) fn kind(&self) -> Kind
         ensures { result ≡ self.now.kind }
     {
@@ -55,6 +57,7 @@ impl Entry {
     }
 
     /// Whether it is there: Live, Marked or Gone.
+    #[inline]
     pub(crate) fn state(&self) -> Find
         ensures { IsOfState result self.now }
     {
@@ -66,6 +69,7 @@ impl Entry {
     }
 
     /// Marks it as deleted, and returns whether nothing holds it.
+    #[inline]
     pub(crate) fn mark(&mut self) -> bool
         ensures value { IsTrue result ↔ (self.old.holds ≡ 0) }
         ensures after { self.new ≡ marked self.old }

@@ -41,6 +41,7 @@ impl Model for Names {
 
 impl Names {
     /// No object. Takes no memory.
+    #[inline]
     pub fn new(alloc: Global) -> Names
         ensures { result ≡ no_names }
     {
@@ -53,6 +54,7 @@ impl Names {
     /// Makes room for one more object of the kind, and returns the handle, 1 to 1,048,576, and the driver name
     /// that the next `create` gives it. `Spent` exactly where all handles were given, `Memory` only before that; nothing
     /// changes at an error.
+    #[inline]
     pub fn room(&mut self, kind: Kind) -> Result<(Handle, u32), Create>
         ensures value { IfOk result (λ r. r ≡ (next_handle self.old, driver_name kind (next_handle self.old))) }
         ensures ok { OnOk result (self.new ≡ record self.old { room = Some kind }) }
@@ -73,6 +75,7 @@ impl Names {
 
     /// Gives the next handle to a new object of the kind, for which `room` was made by the last call that changed
     /// the names. Takes no memory.
+    #[inline]
     pub fn create(&mut self, kind: Kind) -> Handle
         requires { self.old.room ≡ Some kind }
         ensures value { result ≡ next_handle self.old }
@@ -87,6 +90,7 @@ impl Names {
     }
 
     /// What the handle names, for a call that wants an object of the kind.
+    #[inline]
     pub fn find(&self, h: Handle, kind: Kind) -> Find
         ensures { Finds self.now.objects h kind result }
     {
@@ -101,6 +105,7 @@ impl Names {
 
     /// Marks a live object as deleted (OpenGL ES 2.0 appendix C). True exactly where nothing holds it: then it
     /// is gone and its driver name is free.
+    #[inline]
     pub fn delete(&mut self, h: Handle) -> bool
         requires { IsSomeAnd (object_at self.old.objects h) (λ o. o.marked ≡ false) }
         ensures value { IfSome (object_at self.old.objects h) (λ o. IsTrue result ↔ (o.holds ≡ 0)) }
@@ -137,6 +142,7 @@ impl Names {
     }
 
     /// Whether the handle, whatever it is, names a live object of the kind (WebGL 1.0 section 5.14.5, isBuffer).
+    #[inline]
     pub fn is_kind(&self, h: Handle, kind: Kind) -> bool
         ensures { IsTrue result ↔ Finds self.now.objects h kind Find.Live }
     {
@@ -144,6 +150,7 @@ impl Names {
     }
 
     /// The driver name of an object that was given: its handle plus 2, and 0 for a shader or a program.
+    #[inline]
     pub fn driver(&self, h: Handle) -> u32
         requires { IsSome (object_at self.now.objects h) }
         ensures { IfSome (object_at self.now.objects h) (λ o. result ≡ driver_name o.kind h) }
@@ -153,6 +160,7 @@ impl Names {
     }
 
     /// The object of this handle.
+    #[inline]
     fn entry(&self, h: Handle) -> Option<&Entry>
         ensures { option_copied result ≡ object_at self.now.objects h }
     {
@@ -164,6 +172,7 @@ impl Names {
 }
 
 /// Where the object of a handle that was given stands.
+#[inline]
 fn place(entries: &[Entry], h: Handle) -> usize
     requires { IsSome (object_at entries.now h) }
     ensures value { result ≡ h - 1 }
@@ -173,6 +182,7 @@ fn place(entries: &[Entry], h: Handle) -> usize
 }
 
 /// The name that the driver knows an object by; none is made yet for a shader or a program.
+#[inline]
 fn driver_name_of(kind: Kind, h: Handle) -> u32
     requires { h ≤ handles_max }
     ensures { result ≡ driver_name kind h }

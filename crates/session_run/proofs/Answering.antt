@@ -1,5 +1,5 @@
 -- One call answered on both sinks.
-use Rattle.std.proofs.Common.{◌≡◌, ℕ, ◌≤◌, false, Option, Some, None, List, [], append-nil, length, take, Result, Ok, Err, refl, sym, ap, subst, ◌∙◌, arith}
+use Rattle.std.proofs.Common.{◌≡◌, ℕ, ◌≤◌, false, Option, Some, None, List, [], append-nil, length, take, Result, Ok, Err, inl, inr, refl, sym, ap, subst, ◌∙◌, arith}
 use Rattle.std.proofs.Math.Seq.{take-length}
 use Rattle.std.specs.Io.KnownBytes.{append_known}
 use Rattle.wire_io.specs.declared.status.Failed.{Failed}
@@ -12,7 +12,7 @@ use Rattle.gl_model.specs.PageState.{PageState}
 use Rattle.gl_model.specs.DriverState.{DriverState}
 use Rattle.gl_context.specs.PageStep.{is_out_of_memory}
 use Rattle.gl_context.specs.Stands.{Kept}
-use Rattle.gl_context.specs.Steps.{Steps, Stops, bytes_of}
+use Rattle.gl_context.specs.Steps.{Steps, Stops, RepliesOrStops, bytes_of}
 use Rattle.session_run.specs.Ends.{sinks}
 use Rattle.session_run.specs.Loop.{OneDriven, AnswersOne, OneCut}
 
@@ -74,3 +74,13 @@ cut_one w g call out stream0 stream failed s = record {
   sends = s.sends.2;
   after = λ some. absurd (omega arith);
 }
+
+-- a call that was answered, or whose commands or reply were cut short
+pub one_of_two : (w : PageState) (g : DriverState) (call : Call) (kept : Kept) (out0 out stream0 stream : Option (List ℕ))
+    (result : Result (Unit {0}) Failed) → RepliesOrStops w g call kept stream0 stream out0 out result
+    → AnswersOne w g call kept (sinks out0 stream0) (sinks out stream) result
+one_of_two w g call kept out0 out stream0 stream (Ok u) r = answered_one w g call kept out0 out stream0 stream r.reply (Ok u) r.steps r.written
+one_of_two w g call kept out0 out stream0 stream (Err e) (inl r) =
+    answered_one w g call kept out0 out stream0 stream r.reply (Err e) r.steps r.written
+one_of_two w g call kept out0 out stream0 stream (Err e) (inr r) =
+    subst (λ k. OneCut w g call (sinks out0 stream0) (sinks k stream)) (sym r.unwritten) (cut_one w g call out0 stream0 stream r.failed r.stops)

@@ -1,12 +1,18 @@
 -- The loop over records: its start, one more call, and a call that was cut short.
-use Rattle.std.proofs.Common.{◌≡◌, ℕ, ◌+◌, ◌-◌, ◌<◌, ◌≤◌, ◌^◌, Option, Some, None, List, [], ◌∷◌, ◌++◌, length, refl, sym, ap, subst, ◌∙◌, arith, length-append}
+use Rattle.std.proofs.Common.{◌≡◌, ℕ, ◌+◌, ◌-◌, ◌<◌, ◌≤◌, ◌^◌, Option, Some, None, List, [], ◌∷◌, ◌++◌, length, Bor, refl, sym, ap, subst, ◌∙◌, arith, length-append}
 use Rattle.std.specs.Option.{option_to_list}
 use Rattle.std.specs.Io.KnownBytes.{prepend_known, append_known}
 use Rattle.wire_io.proofs.Known.{taken_twice, sent_twice}
 use Rattle.std.proofs.lemmas.Grind.{flat_map-append}
 use Rattle.gl_numbers.proofs.Bytes.{length-le32}
 use Rattle.call_records.specs.declared.calls.Call.{Call}
-use Rattle.call_records.specs.Records.{encoding, Fits}
+use Rattle.gl_numbers.specs.Bytes.{le32}
+use Rattle.call_records.specs.declared.operations.Operation.{Operation}
+use Rattle.call_records.specs.declared.reading.Unread.TheVariants as Unread
+use Rattle.call_records.specs.Operations.{row_of}
+use Rattle.call_records.specs.Reading.{unread_encoding}
+use Rattle.call_records.proofs.Lengths.{length-encoding}
+use Rattle.call_records.specs.Records.{encoding, operation_of, body_of, Fits}
 use Rattle.command_stream.specs.declared.command.Command.{Command}
 use Rattle.command_stream.specs.Commands.{command_encoding}
 use Rattle.gl_model.specs.Shot.{Shot}
@@ -124,10 +130,19 @@ cut_short old mid new kept at call so_far fits room took cut = record {
   read = taken_twice old.left mid.left new.left (records_of (calls_of so_far.taken)) (encoding call) so_far.read took;
 }
 
--- a record has its header
-pub record-long : (call : Call) → 8 ≤ length (encoding call)
-record-long call = simp (length-append, length-le32) (omega arith)
+-- the record of the one call of an operation and a body
+pub one_record : (operation : Operation) (body : Bor (List ℕ)) (call : Call) → operation_of call ≡ operation → body_of call ≡ body.now
+    → unread_encoding (Unread.Call operation body) ≡ encoding call
+one_record operation body call p q = sym (
+    ap (λ (o : Operation). le32 (row_of o).number ++ (le32 (length (body_of call)) ++ body_of call)) p
+    ∙ ap (λ (b : List ℕ). le32 (row_of operation).number ++ (le32 (length b) ++ b)) q
+    )
 
--- the loop comes nearer to the most bytes that it counts
-pub nearer : (at size : ℕ) (call : Call) → size ≡ length (encoding call) → at + size ≤ 2 ^ 63 → 2 ^ 63 - (at + size) < 2 ^ 63 - at
-nearer at size call e within = omega (arith, e, record-long call)
+-- how long the record of a call of this body is
+pub one_length : (body : Bor (List ℕ)) (call : Call) → body_of call ≡ body.now → 8 + length body.now ≡ length (encoding call)
+one_length body call e = ap (λ (b : List ℕ). 8 + length b) (sym e) ∙ sym (length-encoding call)
+
+-- what was read was the record of the one call of its operation and its body
+pub read_one : (old new : Option (List ℕ)) (operation : Operation) (body : Bor (List ℕ)) (call : Call) → operation_of call ≡ operation → body_of call ≡ body.now
+    → old ≡ prepend_known (unread_encoding (Unread.Call operation body)) new → old ≡ prepend_known (encoding call) new
+read_one old new operation body call p q taken = taken ∙ ap (λ l. prepend_known l new) (one_record operation body call p q)

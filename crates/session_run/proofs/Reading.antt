@@ -5,11 +5,12 @@ use Rattle.std.specs.Io.KnownBytes.{prepend_known}
 use Rattle.wire_io.specs.Sources.{WhereTold}
 use Rattle.wire_io.specs.declared.status.Status as Statuses
 use Rattle.call_records.specs.declared.reading.Step.{Step}
-use Rattle.call_records.specs.declared.reading.Step.TheVariants.{End}
+use Rattle.call_records.specs.declared.reading.Unread.{Unread}
+use Rattle.call_records.specs.declared.reading.Unread.TheVariants.{End}
 use Rattle.call_records.specs.declared.reading.ReadEnd.{ReadEnd}
 use Rattle.call_records.specs.declared.reading.ReadEnd.TheVariants.{Truncated, Magic, Version, UnknownOp, BodyLong, BodyShape, AfterEnd, InputLong, ReadFault}
 use Rattle.call_records.specs.Records.{session_start, Fits}
-use Rattle.call_records.specs.Reading.{StartAnswers, Answers, HasRoom}
+use Rattle.call_records.specs.Reading.{StartAnswers, AnswersUnread, Refuses, HasRoom}
 use Rattle.gl_context.specs.PageRun.{Taken}
 use Rattle.gl_context.specs.Stands.{Kept}
 use Rattle.session_run.specs.Ends.{Ends}
@@ -39,31 +40,43 @@ told_else P Q (Some x) (Some y) w make = make x y w
 
 -- the closing record was read after the calls so far
 pub ran_whole : (old mid : Ends) (left : Option (List ℕ)) (kept : Kept) (at : ℕ) → SoFar old mid kept at → at + 8 ≤ 2 ^ 62
-    → WhereTold (λ x y. Answers at x y (Ok End)) mid.left left → RanTo ReadWhole old (record { left = left; both = mid.both })
+    → WhereTold (λ x y. AnswersUnread at x y (Ok End)) mid.left left → RanTo ReadWhole old (record { left = left; both = mid.both })
 ran_whole old mid left kept at so_far room answers = record {
   taken = so_far.taken;
   commands = so_far.commands;
   driver = so_far.driver;
   progress = so_far.progress;
-  read = told_after (λ x y. Answers at x y (Ok End)) (ReadWhole so_far.taken) old.left mid.left left (records_of (calls_of so_far.taken)) so_far.read answers
+  read = told_after (λ x y. AnswersUnread at x y (Ok End)) (ReadWhole so_far.taken) old.left mid.left left (records_of (calls_of so_far.taken)) so_far.read answers
       (λ x y a. record { whole = ap (λ l. records_of (calls_of so_far.taken) ++ l) a.0; nothing = a.1; room = omega (arith, room, so_far.counted) });
 }
 
+-- the room before a refusal, whatever is read where nothing refuses
+same_room : (at : ℕ) (end : ReadEnd) → HasRoom {T = Unread} at (Err end) → HasRoom {T = Step} at (Err end)
+same_room at (Truncated n) room = room
+same_room at (Magic n) room = room
+same_room at (Version n) room = room
+same_room at (UnknownOp n) room = room
+same_room at (BodyLong n) room = room
+same_room at (BodyShape n) room = room
+same_room at (AfterEnd n) room = room
+same_room at (InputLong n) room = room
+same_room at ReadFault room = room
+
 -- the record after the calls so far was refused
 pub ran_refused : (old mid : Ends) (left : Option (List ℕ)) (kept : Kept) (at : ℕ) (end : ReadEnd) → SoFar old mid kept at
-    → HasRoom {T = Step} at (Err end) → WhereTold (λ x y. Answers at x y (Err end)) mid.left left
+    → HasRoom {T = Unread} at (Err end) → WhereTold (λ x y. AnswersUnread at x y (Err end)) mid.left left
     → RanTo (λ taken. ReadRefused taken end) old (record { left = left; both = mid.both })
 ran_refused old mid left kept at end so_far room answers = record {
   taken = so_far.taken;
   commands = so_far.commands;
   driver = so_far.driver;
   progress = so_far.progress;
-  read = told_after (λ x y. Answers at x y (Err end)) (ReadRefused so_far.taken end) old.left mid.left left (records_of (calls_of so_far.taken)) so_far.read answers
+  read = told_after (λ x y. AnswersUnread at x y (Err end)) (ReadRefused so_far.taken end) old.left mid.left left (records_of (calls_of so_far.taken)) so_far.read answers
       (λ x y a. record {
         rest = x;
         before = refl;
-        refused = subst (λ (n : ℕ). Answers n x y (Err end)) so_far.counted a;
-        room = subst (λ (n : ℕ). HasRoom {T = Step} n (Err end)) so_far.counted room;
+        refused = subst (λ (n : ℕ). Refuses n x y end) so_far.counted a;
+        room = subst (λ (n : ℕ). HasRoom {T = Step} n (Err end)) so_far.counted (same_room at end room);
       });
 }
 

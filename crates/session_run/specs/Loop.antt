@@ -5,9 +5,10 @@ use Rattle.std.specs.Io.KnownBytes.{prepend_known, append_known}
 use Rattle.wire_io.specs.Sources.{WhereTold}
 use Rattle.wire_io.specs.declared.status.Failed.{Failed}
 use Rattle.call_records.specs.declared.calls.Call.{Call}
+use Rattle.call_records.specs.declared.operations.Operation.{Operation}
 use Rattle.call_records.specs.declared.reading.Step.{Step}
 use Rattle.call_records.specs.declared.reading.ReadEnd.{ReadEnd}
-use Rattle.call_records.specs.Records.{encoding, closing_record, Fits}
+use Rattle.call_records.specs.Records.{encoding, closing_record, operation_of, body_of, Fits}
 use Rattle.call_records.specs.Replies.{reply_encoding}
 use Rattle.call_records.specs.Reading.{Refuses, HasRoom, IsRecordEnd}
 use Rattle.command_stream.specs.declared.command.Command.{Command}
@@ -57,6 +58,15 @@ pub record OneCut (w : PageState) (g : DriverState) (call : Call) (old new : Sin
 abbrev pub AnswersOne : PageState → DriverState → Call → Kept → Sinks → Sinks → Result (Unit {0}) Failed → Type 0
 AnswersOne w g call kept old new (Ok _) = OneAnswered w g call kept old new
 AnswersOne w g call kept old new (Err _) = OneCut w g call old new
+
+-- the one call of this operation and this body was answered, or a write failed
+pub record Serves (operation : Operation) (body : List ℕ) (before after : Kept) (old new : Sinks)
+    (result : Result (Unit {0}) Failed) : Type 0 where
+  pub call : Call
+  pub fits : Fits call
+  pub operation_is : operation_of call ≡ operation
+  pub body_is : body_of call ≡ body
+  pub answers : (w : PageState) (g : DriverState) → Stands before w g → AnswersOne w g call after old new result
 
 -- the calls so far were answered, and what is kept stands for the page after them and for the driver after their commands
 pub record SoFar (old new : Ends) (kept : Kept) (at : ℕ) : Type 0 where

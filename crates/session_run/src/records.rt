@@ -1,13 +1,18 @@
-ghost use Rattle.std.specs.Prelude.{◌≡◌, false, IfErr};
+ghost use Rattle.std.specs.Prelude.{◌≡◌, false, true, length, IfErr};
+ghost use Rattle.gl_numbers.specs.Fields.{allows};
+ghost use Rattle.call_records.specs.declared.operations.TheConstants.{BODY_MAX};
+ghost use Rattle.call_records.specs.Operations.{row_of};
 ghost use Rattle.call_records.specs.Records.{Fits};
 ghost use Rattle.gl_model.specs.PageState.{PageState, first_page};
 ghost use Rattle.gl_model.specs.DriverState.{DriverState, first_driver};
 ghost use Rattle.gl_context.specs.Stands.{Stands};
 ghost use Rattle.session_run.specs.Ends.{sinks, ends, faults_of};
-ghost use Rattle.session_run.specs.Loop.{AnswersOne, RunsRecords, IsRecordsEnd};
+ghost use Rattle.session_run.specs.Loop.{AnswersOne, Serves, RunsRecords, IsRecordsEnd};
 ghost use Rattle.session_run.specs.Causes.{AnswerCause, RunCause};
 
-use call_records::{Call, ReadEnd, RecordBuf, Step, read_call, write_reply};
+use call_records::{
+    Call, HEADER_BYTES, Operation, ReadEnd, RecordBuf, Subject, Unread, read_record,
+};
 use gl_context::Context;
 use std::sync::ledger::Ledger;
 use step_count::Steps;
@@ -23,6 +28,7 @@ pub enum RunEnd {
 }
 
 /// Answers one call: sends its commands, and then writes its reply.
+#[inline(always)]
 fn answer<O: Sink, T: Sink, L: Ledger>(
     context: &mut Context,
     call: &Call<'_>,
@@ -36,10 +42,57 @@ fn answer<O: Sink, T: Sink, L: Ledger>(
         (sinks (O.held out.old) (T.held stream.old)) (sinks (O.held out.new) (T.held stream.new)) result }
     ensures cause { AnswerCause (O.faults out.old) (O.faults out.new) (T.faults stream.old) (T.faults stream.new) result }
 {
-    let Ok(reply) = context.apply(call, stream, steps) else {
-        return Err(Failed);
-    };
-    write_reply(&reply, out)
+    context.answer(call, out, stream, steps)
+}
+
+/// Answers the call of a record: reads its fields, and answers it. Compiled once for each subject, so that no call waits for the
+/// fields of those of other subjects.
+#[inline(never)]
+fn serve<K: Subject, O: Sink, T: Sink, L: Ledger>(
+    context: &mut Context,
+    subject: K,
+    body: &[u8],
+    out: &mut O,
+    stream: &mut T,
+    steps: &mut Steps<L>,
+) -> Result<(), Failed>
+    requires allowed { allows BODY_MAX (row_of (K.whole subject)) (length body.now) ≡ true }
+    requires working { context.old.failed ≡ false }
+    ensures serves { Serves (K.whole subject) body.now context.old context.new
+        (sinks (O.held out.old) (T.held stream.old)) (sinks (O.held out.new) (T.held stream.new)) result }
+    ensures cause { AnswerCause (O.faults out.old) (O.faults out.new) (T.faults stream.old) (T.faults stream.new) result }
+{
+    let call = Call::of(subject.whole(), body);
+    answer(context, &call, out, stream, steps)
+}
+
+/// Answers the call of a record of any subject.
+#[inline(always)]
+fn serve_any<O: Sink, T: Sink, L: Ledger>(
+    context: &mut Context,
+    operation: Operation,
+    body: &[u8],
+    out: &mut O,
+    stream: &mut T,
+    steps: &mut Steps<L>,
+) -> Result<(), Failed>
+    requires allowed { allows BODY_MAX (row_of operation) (length body.now) ≡ true }
+    requires working { context.old.failed ≡ false }
+    ensures serves { Serves operation body.now context.old context.new
+        (sinks (O.held out.old) (T.held stream.old)) (sinks (O.held out.new) (T.held stream.new)) result }
+    ensures cause { AnswerCause (O.faults out.old) (O.faults out.new) (T.faults stream.old) (T.faults stream.new) result }
+{
+    match operation {
+        Operation::Object(subject) => serve(context, subject, body, out, stream, steps),
+        Operation::Buffer(subject) => serve(context, subject, body, out, stream, steps),
+        Operation::Attrib(subject) => serve(context, subject, body, out, stream, steps),
+        Operation::Texture(subject) => serve(context, subject, body, out, stream, steps),
+        Operation::Query(subject) => serve(context, subject, body, out, stream, steps),
+        Operation::Color(subject) => serve(context, subject, body, out, stream, steps),
+        Operation::DepthStencil(subject) => serve(context, subject, body, out, stream, steps),
+        Operation::View(subject) => serve(context, subject, body, out, stream, steps),
+        Operation::Draw(subject) => serve(context, subject, body, out, stream, steps),
+    }
 }
 
 /// Answers the records of a session, of which the header was taken, up to its end.
@@ -60,11 +113,11 @@ pub fn run_records<S: Source, O: Sink, T: Sink, L: Ledger>(
 {
     let mut at: u64 = 8;
     loop {
-        match read_call(input, at, buf) {
-            Ok(Step::End) => return Ok(()),
-            Ok(Step::Call(call)) => {
-                at += call.size() as u64;
-                let Ok(()) = answer(context, &call, out, stream, steps) else {
+        match read_record(input, at, buf) {
+            Ok(Unread::End) => return Ok(()),
+            Ok(Unread::Call { operation, body }) => {
+                at += (HEADER_BYTES + body.len()) as u64;
+                let Ok(()) = serve_any(context, operation, body, out, stream, steps) else {
                     return Err(RunEnd::Write);
                 };
             }

@@ -1,7 +1,7 @@
 -- Known bytes over several reads or writes.
-use Rattle.std.proofs.Common.{◌≡◌, ℕ, ◌+◌, ◌-◌, ◌≤◌, List, ◌++◌, length, take, drop, Option, Some, None, Result, Ok, Err, IsErr, sym, subst, ◌∙◌, ap, arith, append_assoc, length-append}
+use Rattle.std.proofs.Common.{◌≡◌, ℕ, ◌+◌, ◌-◌, ◌≤◌, List, ◌++◌, length, take, drop, Option, Some, None, Result, Ok, Err, IsErr, sym, ◌∙◌, ap, arith, append_assoc, length-append}
 use Rattle.std.proofs.Math.Seq.{take-add, take-append-add}
-use Rattle.std.proofs.lemmas.List.{length-take-le, take-append-le, take-append-drop, take_rest}
+use Rattle.std.proofs.lemmas.List.{length-take-le, take-append-le, take_rest}
 use Rattle.std.specs.Io.KnownBytes.{prepend_known, append_known}
 use Rattle.wire_io.specs.Sinks.{Sends}
 
@@ -49,10 +49,3 @@ sends_stop old new (Ok x) result a b p f e = absurd cc
 sends_stop old new (Err x) (Ok y) a b p f e = absurd cc
 sends_stop old new (Err x) (Err y) a b p f e =
     (p.0, omega (arith, length-append a b, p.1), rw (take-append-le p.0 a b p.1) p.2)
-
--- a write of a part that isn't empty, and then one of the rest
-pub sent_rest : {T E : Type 0} (old mid new : Option (List ℕ)) (result : Result T E) (piece : List ℕ) (n : ℕ)
-    → mid ≡ append_known old (take n piece) → Sends mid new result (take (length piece - n) (drop n piece)) → Sends old new result piece
-sent_rest old mid new result piece n p q =
-    let rest : Sends mid new result (drop n piece) = subst (Sends mid new result) (take_rest piece n) q in
-    subst (Sends old new result) (take-append-drop n piece) (sends_then old mid new result (take n piece) (drop n piece) p rest)

@@ -1,4 +1,4 @@
-ghost use Rattle.std.specs.Prelude.{◌≡◌, ◌+◌, ◌-◌, ◌^◌, ◌<◌, ◌≤◌, [], ◌++◌, min, length, take, drop, OnOk, OnErr};
+ghost use Rattle.std.specs.Prelude.{◌≡◌, ◌+◌, ◌-◌, ◌^◌, ◌<◌, ◌≤◌, [], ◌++◌, min, length, take, drop, true, false, OnOk, OnErr};
 ghost use Rattle.std.specs.Io.KnownBytes.{IsAtEnd};
 ghost use Rattle.wire_io.specs.Faults.{CountsErrors, HasCause};
 ghost use Rattle.wire_io.specs.Buffers.{BufferState, empty_buffer, Gives, GivesWaiting, KeepsShort, Passes, ReadsThrough, WritesThrough};
@@ -35,7 +35,7 @@ impl Model for Buffer {
 }
 
 /// Copies as many bytes of the piece as fit after the first `end`, and returns how many.
-#[inline(always)]
+#[inline]
 fn append_at(bytes: &mut [u8], end: usize, piece: &[u8]) -> usize
     requires { end ≤ length bytes.old }
     ensures fits { result ≡ min (length piece.now) (length bytes.old - end) }
@@ -95,7 +95,7 @@ impl Buffer {
     }
 
     /// Takes as much of the piece as there is room for, and returns how many bytes.
-    #[inline(always)]
+    #[inline]
     fn put(&mut self, piece: &[u8]) -> usize
         ensures fits { result ≡ min (length piece.now) self.old.room }
         ensures content { self.new.waiting ≡ self.old.waiting ++ take result piece.now }
@@ -107,7 +107,7 @@ impl Buffer {
     }
 
     /// Gives the next bytes that wait, as many as fit, and returns how many.
-    #[inline(always)]
+    #[inline]
     fn give(&mut self, into: &mut [u8]) -> usize
         ensures fits { result ≡ min (length self.old.waiting) (length into.old) }
         ensures content { self.old.waiting ≡ take result into.new ++ self.new.waiting }
@@ -154,24 +154,37 @@ impl Buffer {
         Ok(())
     }
 
-    /// Reads through the buffer: first what waits, then what the reader gives. A piece of the array's size or
-    /// more is read past the buffer, where nothing waits.
-    #[inline(always)]
-    pub fn read_from<R: Read>(&mut self, from: &mut R, into: &mut [u8]) -> Result<usize, Failed>
-        ensures bytes { ReadsThrough (R.remaining from.old) (R.remaining from.new) self.old.waiting self.new.waiting result into.new }
-        ensures waiting { GivesWaiting self.old self.new result into.new }
-        ensures cause { HasCause self.old.faults self.new.faults result }
-        ensures counted { CountsErrors self.old.faults self.new.faults result }
+    /// Fills the piece where so many bytes wait.
+    #[inline]
+    pub fn give_whole(&mut self, into: &mut [u8]) -> bool
+        ensures given { result ≡ true → self.old.waiting ≡ into.new ++ self.new.waiting }
+        ensures left { result ≡ false → self.new ≡ self.old }
+        ensures faults { self.new.faults ≡ self.old.faults }
     {
-        if into.len() <= self.end - self.start {
-            return Ok(self.give(into));
+        if into.len() > self.end - self.start {
+            return false;
         }
-        self.read_ahead(from, into)
+        let _ = self.give(into);
+        true
     }
 
-    /// Reads through the buffer a piece of any length.
-    #[inline(never)]
-    fn read_ahead<R: Read>(&mut self, from: &mut R, into: &mut [u8]) -> Result<usize, Failed>
+    /// Takes all of the piece where there is room for it.
+    #[inline]
+    pub fn keep(&mut self, piece: &[u8]) -> bool
+        ensures kept { result ≡ true → self.new.waiting ≡ self.old.waiting ++ piece.now }
+        ensures left { result ≡ false → self.new ≡ self.old }
+        ensures faults { self.new.faults ≡ self.old.faults }
+    {
+        if piece.len() > CAPACITY - self.end {
+            return false;
+        }
+        let _ = self.put(piece);
+        true
+    }
+
+    /// Reads through the buffer: first what waits, then what the reader gives. A piece of the array's size or
+    /// more is read past the buffer, where nothing waits.
+    pub fn read_from<R: Read>(&mut self, from: &mut R, into: &mut [u8]) -> Result<usize, Failed>
         ensures bytes { ReadsThrough (R.remaining from.old) (R.remaining from.new) self.old.waiting self.new.waiting result into.new }
         ensures waiting { GivesWaiting self.old self.new result into.new }
         ensures cause { HasCause self.old.faults self.new.faults result }
@@ -203,22 +216,7 @@ impl Buffer {
 
     /// Writes through the buffer: takes what there is room for. A piece of the array's size or more is written
     /// past the buffer, once nothing waits.
-    #[inline(always)]
     pub fn write_to<W: Write>(&mut self, out: &mut W, piece: &[u8]) -> Result<usize, Failed>
-        ensures bytes { WritesThrough (W.contents out.old) (W.contents out.new) self.old.waiting self.new.waiting result piece.now }
-        ensures short { KeepsShort self.old self.new result piece.now }
-        ensures cause { HasCause self.old.faults self.new.faults result }
-        ensures counted { CountsErrors self.old.faults self.new.faults result }
-    {
-        if piece.len() < CAPACITY - self.end {
-            return Ok(self.put(piece));
-        }
-        self.write_any(out, piece)
-    }
-
-    /// Writes through the buffer a piece of any length.
-    #[inline(never)]
-    fn write_any<W: Write>(&mut self, out: &mut W, piece: &[u8]) -> Result<usize, Failed>
         ensures bytes { WritesThrough (W.contents out.old) (W.contents out.new) self.old.waiting self.new.waiting result piece.now }
         ensures short { KeepsShort self.old self.new result piece.now }
         ensures cause { HasCause self.old.faults self.new.faults result }

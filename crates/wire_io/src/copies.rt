@@ -1,7 +1,7 @@
 ghost use Rattle.std.specs.Prelude.{◌≡◌, ◌+◌, ◌-◌, ◌<◌, ◌≤◌, [], ◌++◌, min, length, take, drop};
 
 /// Copies as many bytes as fit from the start of `from` to the start of `into`, and returns how many.
-#[inline(always)]
+#[inline]
 pub fn copy_prefix(from: &[u8], into: &mut [u8]) -> usize
     ensures fits { result ≡ min (length from.now) (length into.old) }
     ensures content { into.new ≡ take result from.now ++ drop result into.old }
@@ -14,7 +14,7 @@ pub fn copy_prefix(from: &[u8], into: &mut [u8]) -> usize
 }
 
 /// Copies as many bytes as fit from those after the first `next`, and returns how many.
-#[inline(always)]
+#[inline]
 #[tactic(auto, using(crate::proofs::Copying::copied_rest, crate::proofs::Copying::none_left))]
 pub fn copy_rest(bytes: &[u8], next: usize, into: &mut [u8]) -> usize
     requires { next ≤ length bytes.now }

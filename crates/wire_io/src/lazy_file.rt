@@ -74,7 +74,11 @@ impl<'a, R: Files + Drop> Sink for LazyFile<'a, R> {
 
     ghost handed_on = { λ s. s.unsent.waiting ≡ [] };
 
-    #[inline(always)]
+    #[inline]
+    fn keep(&mut self, bytes: &[u8]) -> bool {
+        self.file.is_some() && self.unsent.keep(bytes)
+    }
+
     fn write(&mut self, bytes: &[u8]) -> Result<usize, Failed>
         ensures bytes { Writes None None result bytes.now }
         ensures cause { HasCause self.old.unsent.faults self.new.unsent.faults result }

@@ -1,4 +1,5 @@
-ghost use Rattle.std.specs.Prelude.{◌≡◌, ℕ, List, Option, OnOk};
+ghost use Rattle.std.specs.Prelude.{◌≡◌, ℕ, List, Option, OnOk, true, false};
+ghost use Rattle.std.specs.Io.KnownBytes.{append_known};
 ghost use Rattle.wire_io.specs.Faults.{HasCause};
 ghost use Rattle.wire_io.specs.Sinks.{Writes, Sends};
 
@@ -22,6 +23,17 @@ pub trait Sink {
         ensures bytes { Writes (held self.old) (held self.new) result bytes.now }
         ensures cause { HasCause (faults self.old) (faults self.new) result };
 
+    /// Appends all of the bytes where the sink has room for them in a buffer of its own, as it has for most short pieces.
+    /// Else it returns false, and nothing was appended.
+    #[inline]
+    fn keep(&mut self, _bytes: &[u8]) -> bool
+        ensures kept { result ≡ true → held self.new ≡ append_known (held self.old) _bytes.now }
+        ensures left { result ≡ false → held self.new ≡ held self.old }
+        ensures faults { faults self.new ≡ faults self.old }
+    {
+        false
+    }
+
     /// Hands on all that was taken. It never changes what is held, and fails only where the number of faults
     /// rose.
     fn flush(&mut self) -> Result<(), Failed>
@@ -31,28 +43,21 @@ pub trait Sink {
 }
 
 /// Writes until all of the bytes are taken, which most sinks do at once; after Failed a prefix of them was appended.
-#[inline(always)]
-#[tactic(auto, using(crate::proofs::Known::sent_rest))]
+#[inline]
 pub fn write_all<K: Sink>(bytes: &[u8], out: &mut K) -> Result<(), Failed>
     ensures bytes { Sends (K.held out.old) (K.held out.new) result bytes.now }
     ensures cause { HasCause (K.faults out.old) (K.faults out.new) result }
 {
-    if bytes.is_empty() {
+    if out.keep(bytes) {
         return Ok(());
     }
-    let Ok(n) = out.write(bytes) else {
-        return Err(Failed);
-    };
-    if n == bytes.len() {
-        return Ok(());
-    }
-    write_rest(&bytes[n..], out)
+    write_parts(bytes, out)
 }
 
-/// Writes what a first write left, piece by piece.
+/// Writes the bytes part by part.
 #[cold]
 #[inline(never)]
-fn write_rest<K: Sink>(bytes: &[u8], out: &mut K) -> Result<(), Failed>
+fn write_parts<K: Sink>(bytes: &[u8], out: &mut K) -> Result<(), Failed>
     ensures bytes { Sends (K.held out.old) (K.held out.new) result bytes.now }
     ensures cause { HasCause (K.faults out.old) (K.faults out.new) result }
 {

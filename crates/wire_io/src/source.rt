@@ -1,4 +1,5 @@
-ghost use Rattle.std.specs.Prelude.{ℕ, List, Option};
+ghost use Rattle.std.specs.Prelude.{◌≡◌, ℕ, List, Option, true, false};
+ghost use Rattle.std.specs.Io.KnownBytes.{prepend_known};
 ghost use Rattle.wire_io.specs.Faults.{HasCause};
 ghost use Rattle.wire_io.specs.Sources.{Reads, Fills};
 
@@ -17,33 +18,35 @@ pub trait Source {
     fn read(&mut self, into: &mut [u8]) -> Result<usize, Failed>
         ensures bytes { Reads (left self.old) (left self.new) result into.new }
         ensures cause { HasCause (faults self.old) (faults self.new) result };
+
+    /// Fills the piece where so many bytes wait in a buffer of the source's own, as they do for most short pieces. Else it
+    /// returns false, and nothing was taken.
+    #[inline]
+    fn give(&mut self, _into: &mut [u8]) -> bool
+        ensures given { result ≡ true → left self.old ≡ prepend_known _into.new (left self.new) }
+        ensures left { result ≡ false → left self.new ≡ left self.old }
+        ensures faults { faults self.new ≡ faults self.old }
+    {
+        false
+    }
 }
 
 /// Reads until `into` is full or the end comes, and returns how many bytes were taken.
-#[inline(always)]
+#[inline]
 pub fn read_full<S: Source>(input: &mut S, into: &mut [u8]) -> Result<usize, Failed>
     ensures bytes { Fills (S.left input.old) (S.left input.new) result into.new }
     ensures cause { HasCause (S.faults input.old) (S.faults input.new) result }
 {
-    if into.is_empty() {
-        return Ok(0);
+    if into.is_empty() || input.give(into) {
+        return Ok(into.len());
     }
-    let Ok(n) = input.read(into) else {
-        return Err(Failed);
-    };
-    if n == 0 || n == into.len() {
-        return Ok(n);
-    }
-    match read_rest(input, &mut into[n..]) {
-        Ok(more) => Ok(n + more),
-        Err(failed) => Err(failed),
-    }
+    read_parts(input, into)
 }
 
-/// Reads what a first read left, piece by piece.
+/// Reads part by part until `into` is full or the end comes.
 #[cold]
 #[inline(never)]
-fn read_rest<S: Source>(input: &mut S, into: &mut [u8]) -> Result<usize, Failed>
+fn read_parts<S: Source>(input: &mut S, into: &mut [u8]) -> Result<usize, Failed>
     ensures bytes { Fills (S.left input.old) (S.left input.new) result into.new }
     ensures cause { HasCause (S.faults input.old) (S.faults input.new) result }
 {

@@ -45,7 +45,11 @@ impl<R: Read + Drop> Source for StdSource<R> {
 
     ghost faults = { λ s. s.faults };
 
-    #[inline(always)]
+    #[inline]
+    fn give(&mut self, into: &mut [u8]) -> bool {
+        self.ahead.give_whole(into)
+    }
+
     fn read(&mut self, into: &mut [u8]) -> Result<usize, Failed>
         ensures bytes { Reads None None result into.new }
         ensures cause { HasCause self.old.faults self.new.faults result }
@@ -93,7 +97,11 @@ impl<W: Write + Drop> Sink for StdSink<W> {
 
     ghost handed_on = { λ s. s.waiting ≡ [] };
 
-    #[inline(always)]
+    #[inline]
+    fn keep(&mut self, bytes: &[u8]) -> bool {
+        self.unsent.keep(bytes)
+    }
+
     fn write(&mut self, bytes: &[u8]) -> Result<usize, Failed>
         ensures bytes { Writes None None result bytes.now }
         ensures cause { HasCause self.old.faults self.new.faults result }

@@ -60,7 +60,7 @@ fn with_buffers(alloc: Global) -> Result<Machine, Fault>
 /// The buffer of a name has these bytes.
 fn holds(rt: &impl Abort, machine: &Machine, name: u32, expected: &[u8]) {
     match machine.buffers.get(name) {
-        Some(buffer) => assert_eq!(rt; buffer.bytes(), expected, "buffer {name}"),
+        Some(buffer) => assert!(rt; buffer.holds(expected), "buffer {name}"),
         None => assert!(rt; false, "buffer {name} is made"),
     }
 }

@@ -14,7 +14,6 @@ returns c =
     let height : SFits w32 (slice_index_or c.args.numbers 3 (pos 0)) = search rules in
     let length : length c.args.numbers ≡ 4 = search rules in
     rw (
-      c.list.ensures,
       c.word_of.ensures,
       c.word_of-2.ensures,
       c.word_of-3.ensures,

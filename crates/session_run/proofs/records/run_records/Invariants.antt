@@ -5,8 +5,8 @@ use Rattle.session_run.specs.Causes.{Later}
 use Rattle.session_run.specs.Loop.{SoFar}
 use Rattle.session_run.proofs.records.run_records.Given as goal
 
-abbrev pub invariant-loop-call : goal.invariant-loop-call
-invariant-loop-call g l = record {
+abbrev pub invariant-loop-operation : goal.invariant-loop-operation
+invariant-loop-operation g l = record {
   so_far : SoFar (ends (g.S.Source.left l.fn.input) (g.O.Sink.held l.fn.out) (g.T.Sink.held l.fn.stream))
       (ends (g.S.Source.left l.input) (g.O.Sink.held l.out) (g.T.Sink.held l.stream)) l.context l.at;
   within : l.at ≤ 2 ^ 63;
@@ -14,5 +14,5 @@ invariant-loop-call g l = record {
       (faults_of (g.S.Source.faults l.input) (g.O.Sink.faults l.out) (g.T.Sink.faults l.stream));
 }
 
-abbrev pub decreases-loop-call : goal.decreases-loop-call
-decreases-loop-call g l = 2 ^ 63 - l.at
+abbrev pub decreases-loop-operation : goal.decreases-loop-operation
+decreases-loop-operation g l = 2 ^ 63 - l.at

@@ -2,7 +2,7 @@
 use Rattle.std.proofs.Common.{arith}
 use Rattle.std.proofs.lemmas.Grind.{common_steps}
 use Rattle.wire_io.proofs.Known.{filled_more}
-use Rattle.wire_io.proofs.source.read_rest.Goals as goal
+use Rattle.wire_io.proofs.source.read_parts.Goals as goal
 
 pub loop-filled-preserved : goal.loop-filled-preserved
 loop-filled-preserved g c = record {

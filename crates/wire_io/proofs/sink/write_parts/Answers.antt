@@ -2,7 +2,7 @@
 use Rattle.std.proofs.Common.{arith}
 use Rattle.std.proofs.lemmas.Grind.{common_steps}
 use Rattle.wire_io.proofs.Known.{sent_more}
-use Rattle.wire_io.proofs.sink.write_rest.Goals as goal
+use Rattle.wire_io.proofs.sink.write_parts.Goals as goal
 
 pub loop-sent-preserved : goal.loop-sent-preserved
 loop-sent-preserved g c = record {

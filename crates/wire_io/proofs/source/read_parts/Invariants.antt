@@ -1,7 +1,7 @@
 -- The bytes filled so far are those taken.
 use Rattle.std.proofs.Common.{length, ◌-◌, ◌≡◌, ◌≤◌, take}
 use Rattle.std.specs.Io.KnownBytes.{prepend_known}
-use Rattle.wire_io.proofs.source.read_rest.Given as goal
+use Rattle.wire_io.proofs.source.read_parts.Given as goal
 
 abbrev pub invariant-loop-filled : goal.invariant-loop-filled
 invariant-loop-filled g l = record {

@@ -1,7 +1,7 @@
 -- The bytes sent so far are those appended.
 use Rattle.std.proofs.Common.{length, ◌-◌, ◌≡◌, ◌≤◌, take}
 use Rattle.std.specs.Io.KnownBytes.{append_known}
-use Rattle.wire_io.proofs.sink.write_rest.Given as goal
+use Rattle.wire_io.proofs.sink.write_parts.Given as goal
 
 abbrev pub invariant-loop-sent : goal.invariant-loop-sent
 invariant-loop-sent g l = record {

@@ -1,7 +1,7 @@
 -- A call's body that was cut short.
 use Rattle.std.proofs.Common.{refl}
 use Rattle.call_records.proofs.Refusals.{body_refused}
-use Rattle.call_records.proofs.reading.read_call.Goals as goal
+use Rattle.call_records.proofs.reading.read_record.Goals as goal
 
 pub returns-in-Err-read_body-clause-answers : goal.returns-in-Err-read_body-clause-answers
 returns-in-Err-read_body-clause-answers g c =
