@@ -7,8 +7,8 @@ ghost use Rattle.glsl_lex.specs.Pieces.{piece_of, IsFront};
 use crate::characters::{is_blank, is_digit, is_letter};
 use crate::comments::{Comment, comment_at, line_end_len, line_ends};
 use crate::numbers::{is_int_within, number_at};
-use crate::spellings::{is_keyword, name_len, punctuator_len};
-use glsl_tree::{Class, LONGEST_NAME};
+use crate::spellings::{name_len, punctuator_len};
+use glsl_tree::{Class, LONGEST_NAME, is_keyword};
 
 /// What stands at the front of a text.
 #[derive(Clone, Copy, Debug)]

@@ -1,18 +1,9 @@
 ghost use Rattle.std.specs.Prelude.{◌≡◌, ◌≤◌, length};
 ghost use Rattle.std.specs.List.{prefix_len};
-ghost use Rattle.glsl_tree.specs.Spellings.{is_keyword, is_name_character};
+ghost use Rattle.glsl_tree.specs.Spellings.{is_name_character};
 ghost use Rattle.glsl_lex.specs.Fronts.{single_len, pair_len, punctuator_len};
 
 use crate::characters::{is_among, is_name_character};
-use glsl_tree::KEYWORDS;
-
-/// Whether the name is a word of the language (GLSL ES 1.00.17 section 3.7).
-#[tactic(auto, unfolding(glsl_tree::specs::Spellings::is_keyword))]
-pub fn is_keyword(name: &[u8]) -> bool
-    ensures { result ≡ is_keyword name.now }
-{
-    KEYWORDS.contains(&name)
-}
 
 /// How many letters and digits the text begins with.
 #[tactic(auto, using(crate::proofs::Counts::counts))]

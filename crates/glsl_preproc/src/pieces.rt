@@ -186,7 +186,7 @@ fn token_of(alloc: Global, piece: &Piece) -> Result<Token, AllocError>
 pub fn tokens_of(alloc: Global, pieces: &[Piece]) -> Result<Vec<Token>, AllocError>
     ensures { IfOk result (λ v. plain_tokens v.items ≡ plain_pieces pieces.now) }
 {
-    let mut out = Vec::new(alloc);
+    let mut out = Vec::with_capacity(alloc, pieces.len())?;
     for piece in pieces {
         out.push(token_of(alloc, piece)?)?;
     }

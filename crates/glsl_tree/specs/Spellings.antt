@@ -1,8 +1,9 @@
 -- How tokens are spelled: names and keywords (GLSL ES 1.00.17 sections 3.7 and 3.8), numbers (4.1.2 and 4.1.3), and
 -- operators and marks (3.6 and 5.1).
-use Rattle.std.specs.Prelude.{ℕ, ◌+◌, ◌-◌, ◌*◌, ◌==◌, Bool, true, false, ◌&&◌, ◌||◌, if◌then◌else◌, List, [], ◌∷◌, length, drop, nat_le, codes, Option, Some, None}
+use Rattle.std.specs.Prelude.{ℕ, ◌+◌, ◌-◌, ◌*◌, ◌==◌, Bool, true, false, ◌&&◌, ◌||◌, if◌then◌else◌, List, [], ◌∷◌, length, drop, slice_get, nat_le, codes, Option, Some, None}
 use Rattle.std.specs.List.{list_any, list_all, prefix_len}
 use Rattle.std.specs.Str.{bytes_eq}
+use Rattle.std.specs.Borrow.{Bor}
 use Rattle.glsl_tree.specs.Characters.{is_among, is_letter, is_digit, is_octal_digit, is_hexadecimal_digit}
 use Rattle.glsl_tree.specs.declared.keywords.TheConstants.{KEYWORDS, LONGEST_NAME, LARGEST_INT}
 use Rattle.glsl_tree.specs.declared.token.Class.{Class}
@@ -17,7 +18,14 @@ is_name [] = false
 is_name (b ∷ text) = is_letter b && list_all is_name_character text
 
 unfoldable pub is_keyword : List ℕ → Bool
-is_keyword text = list_any (λ word. bytes_eq word.now text) KEYWORDS
+is_keyword text = list_any (λ words. list_any (λ word. bytes_eq word.now text) words.now) KEYWORDS
+
+-- whether the name stands in the row of this number, if there is one
+unfoldable pub stands_in_row : List (Bor (List (Bor (List ℕ)))) → ℕ → List ℕ → Bool
+stands_in_row rows number name = elim (slice_get rows number) [
+  | None ↦ false
+  | Some row ↦ list_any (λ word. bytes_eq word.now name) row.now
+]
 
 -- digits, of which the first is not 0
 unfoldable pub is_decimal : List ℕ → Bool

@@ -25,7 +25,7 @@ pub use declarations::{
     Decl, Declarator, FullType, Head, Member, Parameter, Parameters, SizedName, TypeSpecifier,
 };
 pub use expressions::{Callee, Expr};
-pub use keywords::{KEYWORDS, LARGEST_INT, LONGEST_NAME};
+pub use keywords::{KEYWORDS, LARGEST_INT, LONGEST_NAME, is_keyword};
 pub use operators::{AssignmentOperator, BinaryOperator, PostfixOperator, PrefixOperator};
 pub use qualifiers::{Basic, Direction, Precision, Storage};
 pub use spell_statements::{Memory, spell};
