@@ -1,0 +1,15 @@
+pub mod Ahead
+pub mod Rules
+pub mod Names
+pub mod Table
+pub mod Structures
+pub mod Numbered
+pub mod Verdict
+pub mod Loops
+pub mod Site
+pub mod Expressions
+pub mod Declarations
+pub mod Statements
+pub mod Begins
+pub mod Taken
+pub mod Limits
