@@ -27,7 +27,7 @@ MOST_MEMORY = 8 << 30
 MOST_SECONDS = 600
 STACK = 64 << 20
 TIMES = 41
-ENDS = {"0": "whole", "1": "fails", "2": "too long", "3": "memory", "4": "no source", "5": "no tokens"}
+ENDS = {"0": "whole", "1": "fails", "2": "too long", "3": "memory", "4": "no source", "5": "no tokens", "6": "syntax"}
 
 PROGRAM = r'''//! Lexes or expands the source of a file so many times, and prints how that ended. Its words are `lex` or `expand`, how many
 //! times, and the file. `bench/hostile.py` builds and times it.
@@ -224,15 +224,14 @@ SOURCES = [
 ]
 
 
-def build(top, folder):
+def build(top, folder, crates=CRATES, program=PROGRAM):
     """Proves and builds the program over copies of the crates of a checkout, and gives its path."""
-    for name in CRATES:
+    for name in crates:
         shutil.copytree(top / "crates" / name, folder / "crates" / name)
     (folder / "crates" / "hostile" / "src").mkdir(parents=True)
-    (folder / "crates" / "hostile" / "src" / "main.rt").write_text(PROGRAM)
-    (folder / "crates.txt").write_text(
-        "glsl_tree: sqlite_items\nglsl_lex: glsl_tree\nglsl_preproc: glsl_tree glsl_lex\nhostile: glsl_tree glsl_lex glsl_preproc\n"
-    )
+    (folder / "crates" / "hostile" / "src" / "main.rt").write_text(program)
+    listed = [line for line in (top / "crates.txt").read_text().splitlines() if line.split(":")[0] in crates]
+    (folder / "crates.txt").write_text("\n".join(listed) + f"\nhostile: {' '.join(crates)}\n")
     shutil.copy(top / "HANDLES", folder / "HANDLES")
     (folder / "short").write_text("a")
     built = subprocess.run(["rt", "run", "hostile", "--", "expand", "1", str(folder / "short")], cwd=folder / "crates" / "hostile", capture_output=True, text=True)
@@ -241,14 +240,14 @@ def build(top, folder):
     return folder / "crates" / "hostile" / "out" / "hostile"
 
 
-def limit():
-    resource.setrlimit(resource.RLIMIT_AS, (MOST_MEMORY, MOST_MEMORY))
-    resource.setrlimit(resource.RLIMIT_CPU, (MOST_SECONDS, MOST_SECONDS))
-    resource.setrlimit(resource.RLIMIT_STACK, (STACK, STACK))
-
-
-def run(program, path, what="expand", times=1):
+def run(program, path, what="expand", times=1, stack=STACK):
     """How a source ended, the processor seconds, and the most memory in MiB."""
+
+    def limit():
+        resource.setrlimit(resource.RLIMIT_AS, (MOST_MEMORY, MOST_MEMORY))
+        resource.setrlimit(resource.RLIMIT_CPU, (MOST_SECONDS, MOST_SECONDS))
+        resource.setrlimit(resource.RLIMIT_STACK, (stack, stack))
+
     process = subprocess.Popen([program, what, str(times), str(path)], stdout=subprocess.PIPE, preexec_fn=limit)
     words = process.stdout.read().decode().split()
     _, status, used = os.wait4(process.pid, 0)
