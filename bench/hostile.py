@@ -227,17 +227,19 @@ SOURCES = [
 def build(top, folder, crates=CRATES, program=PROGRAM):
     """Proves and builds the program over copies of the crates of a checkout, and gives its path."""
     for name in crates:
-        shutil.copytree(top / "crates" / name, folder / "crates" / name)
-    (folder / "crates" / "hostile" / "src").mkdir(parents=True)
-    (folder / "crates" / "hostile" / "src" / "main.rt").write_text(program)
+        shutil.copytree(top / "crates" / name, folder / "crates" / name, ignore=shutil.ignore_patterns("out", "must-fail"))
+    hostile = folder / "crates" / "hostile"
+    (hostile / "src").mkdir(parents=True)
+    (hostile / "src" / "main.rt").write_text(program)
+    # How it ends where it is run without words, as `rt ci` runs it.
+    (hostile / "status").write_text("2\n")
     listed = [line for line in (top / "crates.txt").read_text().splitlines() if line.split(":")[0] in crates]
     (folder / "crates.txt").write_text("\n".join(listed) + f"\nhostile: {' '.join(crates)}\n")
     shutil.copy(top / "HANDLES", folder / "HANDLES")
-    (folder / "short").write_text("a")
-    built = subprocess.run(["rt", "run", "hostile", "--", "expand", "1", str(folder / "short")], cwd=folder / "crates" / "hostile", capture_output=True, text=True)
+    built = subprocess.run(["rt", "ci"], cwd=folder, capture_output=True, text=True)
     if built.returncode != 0:
         sys.exit(f"bench/hostile.py: the program was not built:\n{built.stdout}{built.stderr}")
-    return folder / "crates" / "hostile" / "out" / "hostile"
+    return hostile / "out" / "hostile"
 
 
 def run(program, path, what="expand", times=1, stack=STACK):

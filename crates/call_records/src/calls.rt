@@ -1,21 +1,19 @@
 ghost use Rattle.std.specs.Prelude.{◌≡◌, length, true, []};
-ghost use Rattle.gl_numbers.specs.Fields.{allows, body_encoding, ReadsRow};
+ghost use Rattle.gl_numbers.specs.Fields.{allows, body_encoding};
 ghost use Rattle.call_records.specs.declared.operations.TheConstants.{BODY_MAX};
 ghost use Rattle.call_records.specs.Operations.{row_of};
 ghost use Rattle.call_records.specs.Records.{parts_of, operation_of, body_of, encoding, Fits};
 
 use crate::attrib_calls::AttribCall;
 use crate::buffer_calls::BufferCall;
-use crate::color_calls::ColorCall;
-use crate::depth_stencil_calls::DepthStencilCall;
 use crate::draw_calls::DrawCall;
 use crate::object_calls::ObjectCall;
 use crate::operations::{HEADER_BYTES, Operation};
 use crate::query_calls::QueryCall;
 use crate::raster_calls::RasterCall;
+use crate::subjects::call_of;
 use crate::texture_calls::TextureCall;
-use crate::view_calls::ViewCall;
-use gl_numbers::{FieldBytes, Fields};
+use gl_numbers::FieldBytes;
 
 /// A recorded call (WebGL 1.0 section 5.14) with its arguments as words, by subject.
 /// A tail of bytes borrows the record buffer.
@@ -50,39 +48,26 @@ impl<'a> Call<'a> {
 
     /// The call of an operation with this body.
     #[inline]
-    #[tactic(auto, using(gl_numbers::proofs::OneRecord::read_fits))]
     pub fn of(operation: Operation, body: &'a [u8]) -> Self
         requires { allows BODY_MAX (row_of operation) (length body.now) ≡ true }
         ensures operation { operation_of result ≡ operation }
         ensures body { body_of result ≡ body.now }
         ensures fits { Fits result }
     {
-        let mut fields = Fields::new(body);
-        Call::read(operation, &mut fields)
-    }
-
-    /// The call of an operation, its fields and its tail read in order.
-    #[inline]
-    fn read(operation: Operation, fields: &mut Fields<'a>) -> Self
-        requires { allows BODY_MAX (row_of operation) (length fields.old) ≡ true }
-        ensures { ReadsRow row_of operation fields.old fields.new (parts_of result) }
-    {
         match operation {
-            Operation::Object(operation) => Call::Object(ObjectCall::read(operation, fields)),
-            Operation::Buffer(operation) => Call::Buffer(BufferCall::read(operation, fields)),
-            Operation::Attrib(operation) => Call::Attrib(AttribCall::read(operation, fields)),
-            Operation::Texture(operation) => Call::Texture(TextureCall::read(operation, fields)),
-            Operation::Query(operation) => Call::Query(QueryCall::read(operation, fields)),
-            Operation::Color(operation) => {
-                Call::Raster(RasterCall::Color(ColorCall::read(operation, fields)))
-            }
+            Operation::Object(operation) => Call::Object(call_of(operation, body)),
+            Operation::Buffer(operation) => Call::Buffer(call_of(operation, body)),
+            Operation::Attrib(operation) => Call::Attrib(call_of(operation, body)),
+            Operation::Texture(operation) => Call::Texture(call_of(operation, body)),
+            Operation::Query(operation) => Call::Query(call_of(operation, body)),
+            Operation::Color(operation) => Call::Raster(RasterCall::Color(call_of(
+                operation, body,
+            ))),
             Operation::DepthStencil(operation) => {
-                Call::Raster(RasterCall::DepthStencil(DepthStencilCall::read(operation, fields)))
+                Call::Raster(RasterCall::DepthStencil(call_of(operation, body)))
             }
-            Operation::View(operation) => {
-                Call::Raster(RasterCall::View(ViewCall::read(operation, fields)))
-            }
-            Operation::Draw(operation) => Call::Draw(DrawCall::read(operation, fields)),
+            Operation::View(operation) => Call::Raster(RasterCall::View(call_of(operation, body))),
+            Operation::Draw(operation) => Call::Draw(call_of(operation, body)),
         }
     }
 

@@ -25,6 +25,7 @@ mod reply_reading;
 mod reply_tests;
 #[cfg(test)]
 mod state_tests;
+mod subjects;
 #[cfg(test)]
 mod tests;
 mod texture_calls;
@@ -38,7 +39,7 @@ pub use color_calls::{ColorCall, ColorOperation};
 pub use depth_stencil_calls::{DepthStencilCall, DepthStencilOperation};
 pub use draw_calls::{DrawCall, DrawOperation};
 pub use object_calls::{New, ObjectCall, ObjectKind, ObjectOperation};
-pub use operations::{BODY_MAX, CLOSE, HEADER_BYTES, Operation, Subject};
+pub use operations::{BODY_MAX, CLOSE, HEADER_BYTES, Operation};
 pub use query_calls::{QueryCall, QueryOperation};
 pub use raster_calls::RasterCall;
 pub use reading::{
@@ -48,6 +49,7 @@ pub use reading::{
 pub use record_buf::RecordBuf;
 pub use replies::{Reply, Value, write_list, write_nothing, write_number, write_reply};
 pub use reply_reading::read_reply;
+pub use subjects::{Subject, SubjectCall, call_of};
 pub use texture_calls::{TextureCall, TextureOperation};
 pub use view_calls::{ViewCall, ViewOperation};
 pub use writing::write_call;

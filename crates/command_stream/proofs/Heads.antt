@@ -1,6 +1,7 @@
 -- What is sent of a command whose fields are words: its header, the words, and then its tail.
-use Rattle.std.proofs.Common.{◌≡◌, ℕ, ◌+◌, ◌*◌, ◌≤◌, List, [], ◌++◌, length, map, Option, Result, sym, ap, subst, ◌∙◌, arith, append_assoc, append-nil}
+use Rattle.std.proofs.Common.{◌≡◌, ℕ, ◌+◌, ◌*◌, ◌≤◌, List, [], ◌∷◌, ◌++◌, length, map, Option, Result, sym, ap, subst, ◌∙◌, arith, append_assoc, append-nil}
 use Rattle.std.specs.List.{flat_map}
+use Rattle.std.proofs.lemmas.Grind.{flat_map-append}
 use Rattle.gl_numbers.specs.Bytes.{le32}
 use Rattle.gl_numbers.specs.Fields.{Word, body_encoding}
 use Rattle.wire_io.specs.Sinks.{Sends}
@@ -50,3 +51,34 @@ sends-tail old new result operation number len words tail is size sent =
 -- few words and a short tail are a short body
 pub short-words : (words tail : List ℕ) → 4 * length words + length tail ≤ body_max → length (body_encoding (map Word words) tail) ≤ body_max
 short-words words tail short = omega (arith, length-body_words words tail, short)
+
+-- a header and words, and then a second header and words with a tail
+head-joined : (number len : ℕ) (words : List ℕ) (second left : ℕ) (others tail : List ℕ) → len ≡ 4 * length words → left ≡ 4 * length others + length tail
+    → (le32 number ++ (le32 len ++ flat_map le32 (words ++ second ∷ left ∷ others))) ++ tail
+    ≡ (le32 number ++ (le32 (length (body_encoding (map Word words) [])) ++ body_encoding (map Word words) []))
+    ++ (le32 second ++ (le32 (length (body_encoding (map Word others) tail)) ++ body_encoding (map Word others) tail))
+head-joined number len words second left others tail size rest =
+    let head : List ℕ = le32 number ++ (le32 len ++ flat_map le32 words) in
+    let after : List ℕ = le32 second ++ (le32 left ++ flat_map le32 others) in
+    ap (λ b. (le32 number ++ (le32 len ++ b)) ++ tail) (flat_map-append le32 words (second ∷ left ∷ others))
+    ∙ ap (λ b. b ++ tail) (sym (append_assoc (le32 number) (le32 len ++ flat_map le32 words) after
+    ∙ ap (λ b. le32 number ++ b) (append_assoc (le32 len) (flat_map le32 words) after)))
+    ∙ append_assoc head after tail
+    ∙ ap (λ b. b ++ (after ++ tail)) (head-words number len words size)
+    ∙ ap (λ b. (le32 number ++ (le32 (length (body_encoding (map Word words) [])) ++ body_encoding (map Word words) [])) ++ b)
+    (head-tail second left others tail rest)
+
+-- what is sent of two commands whose headers and words are one write, where a tail follows the second's
+pub sends-joined : {E : Type 0} (old new : Option (List ℕ)) (result : Result (Unit {0}) E) (first : Operation) (number len : ℕ) (words : List ℕ)
+    (operation : Operation) (second left : ℕ) (others tail : List ℕ)
+    → number ≡ number_of first → second ≡ number_of operation → len ≡ 4 * length words → left ≡ 4 * length others + length tail
+    → Sends old new result ((le32 number ++ (le32 len ++ flat_map le32 (words ++ second ∷ left ∷ others))) ++ tail)
+    → Sends old new result (encoding_of (with_words first words []) ++ encoding_of (with_words operation others tail))
+sends-joined old new result first number len words operation second left others tail is same size rest sent =
+    let joined : (le32 number ++ (le32 len ++ flat_map le32 (words ++ second ∷ left ∷ others))) ++ tail
+    ≡ encoding_of (with_words first words []) ++ encoding_of (with_words operation others tail) =
+    head-joined number len words second left others tail size rest
+    ∙ ap (λ n. (le32 n ++ (le32 (length (body_encoding (map Word words) [])) ++ body_encoding (map Word words) []))
+    ++ (le32 second ++ (le32 (length (body_encoding (map Word others) tail)) ++ body_encoding (map Word others) tail))) is
+    ∙ ap (λ n. encoding_of (with_words first words []) ++ (le32 n ++ (le32 (length (body_encoding (map Word others) tail)) ++ body_encoding (map Word others) tail))) same in
+    subst (Sends old new result) joined sent

@@ -1,4 +1,4 @@
-ghost use Rattle.std.specs.Prelude.{◌≡◌, ◌≤◌, length, true, IfSome};
+ghost use Rattle.std.specs.Prelude.{◌≡◌, ◌≤◌, ◌+◌, ◌++◌, length, true, IfSome};
 ghost use Rattle.wire_io.specs.Faults.{HasCause};
 ghost use Rattle.wire_io.specs.Sinks.{Sends};
 ghost use Rattle.command_stream.specs.declared.operation.Operation.TheVariants.{Buffer};
@@ -7,13 +7,14 @@ ghost use Rattle.gl_numbers.specs.Fields.{FitsLetters, FitsTail};
 ghost use Rattle.command_stream.specs.Rows.{IsRow};
 ghost use Rattle.command_stream.specs.Operations.{allows, body_max};
 ghost use Rattle.command_stream.specs.BufferCommands.{buffer_row, buffer_numbered, buffer_parts};
+ghost use Rattle.command_stream.specs.declared.buffer_commands.BufferCommand.TheVariants.{BufferSize, BufferBytes};
 ghost use Rattle.command_stream.specs.Commands.{encoding_of};
 
 use crate::operation::Operation;
 use crate::row::Row;
-use crate::write::{write_with_bytes, write_words};
+use crate::write::{write_head, write_with_bytes, write_words};
 use gl_numbers::{Tail, u32_at};
-use wire_io::{Failed, Sink};
+use wire_io::{Failed, Sink, write_all};
 
 /// What is done to the buffer targets and to the buffers bound to them (OpenGL ES 2.0 section 2.9). Targets and
 /// usages are GL words; sizes and offsets are bytes.
@@ -147,4 +148,28 @@ pub fn write_buffer_command<S: Sink>(c: &BufferCommand<'_>, stream: &mut S) -> R
             write_with_bytes(operation, &[*target, *offset], bytes, stream)
         }
     }
+}
+
+/// Writes what gives the buffer bound to a target its content: BufferSize of the bytes' length, and then BufferBytes of all of them.
+/// What stands before the bytes is one write, and they are not copied. After Failed a prefix was appended.
+#[inline(always)]
+pub fn write_filled<S: Sink>(
+    target: u32,
+    usage: u32,
+    bytes: &[u8],
+    stream: &mut S,
+) -> Result<(), Failed>
+    requires { 8 + length bytes.now ≤ body_max }
+    ensures bytes { Sends (S.held stream.old) (S.held stream.new) result
+        (encoding_of (buffer_parts (BufferSize target usage (length bytes.now))) ++ encoding_of (buffer_parts (BufferBytes target 0 bytes.entry))) }
+    ensures cause { HasCause (S.faults stream.old) (S.faults stream.new) result }
+{
+    let size = Operation::Buffer(BufferOperation::BufferSize);
+    let filled = Operation::Buffer(BufferOperation::BufferBytes);
+    let len = bytes.len() as u32;
+    let words = [target, usage, len, filled.number(), 8 + len, target, 0];
+    let Ok(()) = write_head(size.number(), 12, &words, stream) else {
+        return Err(Failed);
+    };
+    write_all(bytes, stream)
 }

@@ -16,10 +16,10 @@ mod taking;
 mod write;
 
 pub use bad::Bad;
-pub use buffer_commands::BufferCommand;
+pub use buffer_commands::{BufferCommand, write_buffer_command, write_filled};
 pub use command::Command;
 pub use decoder::Decoder;
-pub use object_commands::ObjectCommand;
+pub use object_commands::{ObjectCommand, write_object_command};
 pub use operation::{BODY_MAX, HEADER_BYTES, START_BYTES, STREAM_MAGIC, STREAM_VERSION};
 pub use write::{write_command, write_start};
 

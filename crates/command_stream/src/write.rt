@@ -39,7 +39,12 @@ pub fn write_start<S: Sink>(stream: &mut S) -> Result<(), Failed>
 
 /// Writes a command's header and its fields, as words.
 #[inline(always)]
-fn write_head<S: Sink>(number: u32, len: u32, words: &[u32], stream: &mut S) -> Result<(), Failed>
+pub fn write_head<S: Sink>(
+    number: u32,
+    len: u32,
+    words: &[u32],
+    stream: &mut S,
+) -> Result<(), Failed>
     requires { length words.now ≤ WORDS_MAX }
     ensures bytes { Sends (S.held stream.old) (S.held stream.new) result (le32 number ++ (le32 len ++ flat_map le32 words.now)) }
     ensures cause { HasCause (S.faults stream.old) (S.faults stream.new) result }

@@ -3,6 +3,7 @@ pub mod Agreeing
 pub mod Sounding
 pub mod SentBytes
 pub mod Sent
+pub mod Sending
 pub mod Keeping
 pub mod Tying
 pub mod Acting

@@ -16,7 +16,7 @@ use Rattle.call_records.specs.declared.buffer_calls.Fill.{Fill}
 use Rattle.call_records.specs.declared.buffer_calls.Fill.TheVariants.{Size, Bytes}
 use Rattle.command_stream.specs.Commands as Stream
 use Rattle.call_records.specs.Records.{Fits}
-use Rattle.gl_context.specs.Steps.{bytes_of}
+use Rattle.gl_context.specs.Sent.{bytes_of}
 
 -- sending one command is sending a list of one
 pub sends_one : {T E : Type 0} (old new : Option (List ℕ)) (result : Result T E) (command : Command) → Sends old new result (command_encoding command)

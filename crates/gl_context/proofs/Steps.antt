@@ -42,11 +42,11 @@ use Rattle.gl_context.specs.TextureRows.{texture_row}
 use Rattle.gl_context.specs.QueryRows.{query_row}
 use Rattle.gl_context.specs.RasterRows.{raster_row}
 use Rattle.gl_context.specs.DrawRows.{draw_row}
-use Rattle.gl_context.specs.Sent.{sent}
+use Rattle.gl_context.specs.Sent.{sent, bytes_of}
 use Rattle.gl_context.specs.Follows.{IsGood}
 use Rattle.gl_context.specs.Deeds.{HasReason}
 use Rattle.gl_context.specs.Stands.{Kept, Keeps, IsSound, Agrees, Stands}
-use Rattle.gl_context.specs.Steps.{bytes_of, Steps, Stops, Replies, RepliesOrStops}
+use Rattle.gl_context.specs.Steps.{Steps, Stops, RepliesOrStops}
 use Rattle.wire_io.specs.declared.status.Failed.{Failed}
 use Rattle.call_records.specs.Replies.{reply_encoding}
 use Rattle.gl_context.specs.declared.context.WriteFault.{WriteFault}

@@ -16,6 +16,7 @@ pub mod Follows
 pub mod Filled
 pub mod Found
 pub mod Deeds
+pub mod Made
 pub mod Steps
 pub mod Opening
 pub mod Codes

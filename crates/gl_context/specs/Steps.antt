@@ -1,6 +1,5 @@
 -- What the context does with one call, seen from the page's and the driver's states that it stands for.
 use Rattle.std.specs.Prelude.{◌≡◌, ◌⊎◌, ℕ, true, false, Option, List, Result, Ok, Err, All}
-use Rattle.std.specs.List.{flat_map}
 use Rattle.std.specs.Option.{option_to_list}
 use Rattle.std.specs.Io.KnownBytes.{append_known}
 use Rattle.wire_io.specs.Sinks.{Sends}
@@ -9,19 +8,14 @@ use Rattle.call_records.specs.Replies.{reply_encoding}
 use Rattle.call_records.specs.declared.calls.Call.{Call}
 use Rattle.call_records.specs.declared.replies.Reply.{Reply}
 use Rattle.command_stream.specs.declared.command.Command.{Command}
-use Rattle.command_stream.specs.Commands.{command_encoding}
 use Rattle.command_stream.specs.Commands.{Fits}
 use Rattle.gl_model.specs.PageState.{PageState}
 use Rattle.gl_model.specs.DriverState.{DriverState}
 use Rattle.gl_model.specs.Replay.{replay, clean}
 use Rattle.gl_context.specs.PageStep.{step, MayBeOutOfMemory, is_out_of_memory}
-use Rattle.gl_context.specs.Sent.{sent}
+use Rattle.gl_context.specs.Sent.{sent, bytes_of}
 use Rattle.gl_context.specs.Stands.{Kept, Stands}
 use Rattle.gl_context.specs.declared.context.WriteFault.{WriteFault}
-
--- the bytes of commands
-abbrev pub bytes_of : List Command → List ℕ
-bytes_of commands = flat_map command_encoding commands
 
 -- the page's step gave the reply, its commands replay without a fault to exactly its Shot, and what is kept stands afterwards
 pub record Steps (w : PageState) (g : DriverState) (call : Call) (kept : Kept) (old new : Option (List ℕ)) (reply : Reply) : Type 0 where
@@ -48,11 +42,6 @@ pub record Stops (w : PageState) (g : DriverState) (call : Call) (old new : Opti
 abbrev pub StepsOrStops : PageState → DriverState → Call → Kept → Option (List ℕ) → Option (List ℕ) → Result Reply WriteFault → Type 0
 StepsOrStops w g call kept old new (Ok reply) = Steps w g call kept old new reply
 StepsOrStops w g call kept old new (Err failed) = Stops w g call old new failed
-
--- a result with something else in place of its value
-abbrev pub map_ok : {T U E : Type 0} → (T → U) → Result T E → Result U E
-map_ok f (Ok x) = Ok (f x)
-map_ok f (Err e) = Err e
 
 -- a call was answered by the page's step, its commands were sent, and its reply was written, or a prefix of it where a write failed
 pub record Replies (w : PageState) (g : DriverState) (call : Call) (kept : Kept) (stream0 stream out0 out : Option (List ℕ))

@@ -1,11 +1,11 @@
-ghost use Rattle.std.specs.Prelude.{◌≡◌, IfOk};
+ghost use Rattle.std.specs.Prelude.{◌≡◌};
 ghost use Rattle.gl_model.specs.PageState.{PageState};
 ghost use Rattle.gl_context.specs.AttribRows.{array_row, attrib_row, constant_row, offset_of, offset_row, parameter_of, parameter_row, pointer_row};
 ghost use Rattle.gl_context.specs.Stands.{Keeps};
-ghost use Rattle.gl_context.specs.Deeds.{ActsBy, CanSend, value_in};
+ghost use Rattle.gl_context.specs.Deeds.{ReturnsBy, value_in};
 
 use crate::context::Context;
-use crate::deed::{Deed, Told};
+use crate::deed::Told;
 use crate::values::truth;
 use attrib_state::{Attrib, Pointer};
 use call_records::AttribCall;
@@ -39,9 +39,8 @@ fn offset_of(attribute: &Attrib) -> Told
 
 impl Context {
     /// The calls on vertex attributes.
-    pub(crate) fn attrib<'a>(&mut self, call: &AttribCall) -> Result<Deed<'a>, GlError>
-        ensures acts { (w : PageState) → Keeps self.old w → ActsBy (attrib_row w call.now) w self.new result }
-        ensures sendable { IfOk result (λ deed. CanSend deed.outgoing) }
+    pub(crate) fn attrib(&mut self, call: &AttribCall) -> Result<Told, GlError>
+        ensures acts { (w : PageState) → Keeps self.old w → ReturnsBy (attrib_row w call.now) w self.new result }
         ensures failed { self.new.failed ≡ self.old.failed }
     {
         match *call {
@@ -74,46 +73,42 @@ impl Context {
     }
 
     /// enableVertexAttribArray and disableVertexAttribArray (WebGL 1.0 section 5.14.10)
-    fn attrib_array<'a>(&mut self, index: u32, on: bool) -> Result<Deed<'a>, GlError>
-        ensures acts { (w : PageState) → Keeps self.old w → ActsBy (array_row w index on) w self.new result }
-        ensures sendable { IfOk result (λ deed. CanSend deed.outgoing) }
+    fn attrib_array(&mut self, index: u32, on: bool) -> Result<Told, GlError>
+        ensures acts { (w : PageState) → Keeps self.old w → ReturnsBy (array_row w index on) w self.new result }
         ensures failed { self.new.failed ≡ self.old.failed }
     {
         if let Err(error) = self.attributes.enable(index, on) {
             return Err(error);
         }
-        Ok(Deed::told(Told::Nothing))
+        Ok(Told::Nothing)
     }
 
     /// vertexAttribPointer (WebGL 1.0 section 5.14.10)
-    fn attrib_pointer<'a>(&mut self, index: u32, pointer: Pointer) -> Result<Deed<'a>, GlError>
-        ensures acts { (w : PageState) → Keeps self.old w → ActsBy (pointer_row w index pointer) w self.new result }
-        ensures sendable { IfOk result (λ deed. CanSend deed.outgoing) }
+    fn attrib_pointer(&mut self, index: u32, pointer: Pointer) -> Result<Told, GlError>
+        ensures acts { (w : PageState) → Keeps self.old w → ReturnsBy (pointer_row w index pointer) w self.new result }
         ensures failed { self.new.failed ≡ self.old.failed }
     {
         let bound = self.buffers.bound(BufferTarget::Array);
         if let Err(error) = self.attributes.pointer(bound, index, pointer) {
             return Err(error);
         }
-        Ok(Deed::told(Told::Nothing))
+        Ok(Told::Nothing)
     }
 
     /// vertexAttrib1f and its kin (WebGL 1.0 section 5.14.10)
-    fn attrib_constant<'a>(&mut self, index: u32, words: [u32; 4]) -> Result<Deed<'a>, GlError>
-        ensures acts { (w : PageState) → Keeps self.old w → ActsBy (constant_row w index words) w self.new result }
-        ensures sendable { IfOk result (λ deed. CanSend deed.outgoing) }
+    fn attrib_constant(&mut self, index: u32, words: [u32; 4]) -> Result<Told, GlError>
+        ensures acts { (w : PageState) → Keeps self.old w → ReturnsBy (constant_row w index words) w self.new result }
         ensures failed { self.new.failed ≡ self.old.failed }
     {
         if let Err(error) = self.attributes.constant(index, words) {
             return Err(error);
         }
-        Ok(Deed::told(Told::Nothing))
+        Ok(Told::Nothing)
     }
 
     /// getVertexAttrib (WebGL 1.0 section 5.14.10)
-    fn attrib_parameter<'a>(&self, index: u32, name: u32) -> Result<Deed<'a>, GlError>
-        ensures acts { (w : PageState) → Keeps self.now w → ActsBy (parameter_row w index name) w self.now result }
-        ensures sendable { IfOk result (λ deed. CanSend deed.outgoing) }
+    fn attrib_parameter(&self, index: u32, name: u32) -> Result<Told, GlError>
+        ensures acts { (w : PageState) → Keeps self.now w → ReturnsBy (parameter_row w index name) w self.now result }
     {
         let Some(attribute) = self.attributes.at(index) else {
             return Err(GlError::Value);
@@ -121,13 +116,12 @@ impl Context {
         let Some(parameter) = AttribParameter::from_u32(name) else {
             return Err(GlError::Enum);
         };
-        Ok(Deed::told(parameter_of(attribute, parameter)))
+        Ok(parameter_of(attribute, parameter))
     }
 
     /// getVertexAttribOffset (WebGL 1.0 section 5.14.10)
-    fn attrib_offset<'a>(&self, index: u32, name: u32) -> Result<Deed<'a>, GlError>
-        ensures acts { (w : PageState) → Keeps self.now w → ActsBy (offset_row w index name) w self.now result }
-        ensures sendable { IfOk result (λ deed. CanSend deed.outgoing) }
+    fn attrib_offset(&self, index: u32, name: u32) -> Result<Told, GlError>
+        ensures acts { (w : PageState) → Keeps self.now w → ReturnsBy (offset_row w index name) w self.now result }
     {
         let Some(attribute) = self.attributes.at(index) else {
             return Err(GlError::Value);
@@ -135,6 +129,6 @@ impl Context {
         if name != VERTEX_ATTRIB_ARRAY_POINTER {
             return Err(GlError::Enum);
         }
-        Ok(Deed::told(offset_of(attribute)))
+        Ok(offset_of(attribute))
     }
 }

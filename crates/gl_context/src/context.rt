@@ -1,4 +1,4 @@
-ghost use Rattle.std.specs.Prelude.{◌≡◌, ◌≤◌, ◌↔◌, ◌⊎◌, false, true, IsOk, IfOk, IsTrue, OnOk, OnErr};
+ghost use Rattle.std.specs.Prelude.{◌≡◌, ◌≤◌, ◌↔◌, ◌⊎◌, false, IsOk, OnOk, OnErr};
 ghost use Rattle.std.specs.Io.KnownBytes.{append_known};
 ghost use Rattle.gl_numbers.specs.Errors.{code_of};
 ghost use Rattle.gl_model.specs.Errors.{raise};
@@ -9,20 +9,19 @@ ghost use Rattle.wire_io.specs.Sinks.{Sends};
 ghost use Rattle.call_records.specs.Records.{Fits};
 ghost use Rattle.call_records.specs.declared.replies.Value.TheVariants.{Nothing};
 ghost use Rattle.command_stream.specs.Commands.{stream_start};
-ghost use Rattle.gl_context.specs.PageStep.{row_of};
-ghost use Rattle.gl_context.specs.Stands.{Keeps, IsSound, Stands};
-ghost use Rattle.gl_context.specs.Deeds.{ActsBy, CanSend, reply_of};
-ghost use Rattle.gl_context.specs.Steps.{StepsOrStops, RepliesOrStops, map_ok};
+ghost use Rattle.gl_context.specs.Stands.{Stands};
+ghost use Rattle.gl_context.specs.Deeds.{map_ok, reply_of};
+ghost use Rattle.gl_context.specs.Steps.{StepsOrStops, RepliesOrStops};
 ghost use Rattle.call_records.specs.Replies.{reply_encoding};
 ghost use Rattle.gl_context.specs.Opening.{Opens};
 
-use crate::deed::{Answer, Deed, Told};
+use crate::acts::Acts;
+use crate::deed::{Answer, Stop, Told};
 use crate::errors::ErrorFlags;
 use crate::pixels::Pixels;
-use crate::sending::send;
 use attrib_state::Attribs;
 use buffer_store::Buffers;
-use call_records::{Call, write_list, write_nothing, write_number};
+use call_records::{write_list, write_nothing, write_number};
 use command_stream::write_start;
 use gl_numbers::{GlError, NO_ERROR};
 use object_names::Names;
@@ -124,65 +123,47 @@ impl Context {
         }
     }
 
-    /// Judges a call, and acts on the stores where nothing refuses it.
-    #[inline(always)]
-    fn act<'a>(&mut self, call: &Call<'a>) -> Result<Deed<'a>, GlError>
-        requires { Fits call.now }
-        ensures acts { (w : PageState) → Keeps self.old w → IsSound w → ActsBy (row_of w call.now) w self.new result }
-        ensures sendable { IfOk result (λ deed. CanSend deed.outgoing) }
-        ensures failed { self.new.failed ≡ self.old.failed }
-    {
-        match call {
-            Call::Object(call) => self.object(call),
-            Call::Buffer(call) => self.buffer(call),
-            Call::Attrib(call) => self.attrib(call),
-            Call::Texture(call) => self.texture(call),
-            Call::Query(call) => self.query(call),
-            Call::Raster(call) => self.raster(call),
-            Call::Draw(call) => self.draw(call),
-        }
-    }
-
     /// Takes the page's step for a call, and sends its commands to the driver. WriteFault comes only where the stream's number
     /// of faults rose; then a prefix of the commands was sent.
     #[inline(always)]
-    fn apply<S: Sink>(&mut self, call: &Call<'_>, stream: &mut S) -> Result<Answer, WriteFault>
+    fn apply<C: Acts, S: Sink>(&mut self, call: &C, stream: &mut S) -> Result<Answer, WriteFault>
         requires working { self.old.failed ≡ false }
-        requires fits { Fits call.now }
+        requires fits { Fits (C.whole_call call.now) }
         ensures steps { (w : PageState) (g : DriverState) → Stands self.old w g
-            → StepsOrStops w g call.now self.new (S.held stream.old) (S.held stream.new) (map_ok reply_of result) }
+            → StepsOrStops w g (C.whole_call call.now) self.new (S.held stream.old) (S.held stream.new) (map_ok reply_of result) }
         ensures cause { HasCause (S.faults stream.old) (S.faults stream.new) result }
         ensures failed { IsOk result ↔ (self.new.failed ≡ false) }
     {
-        let Deed { told, outgoing } = match self.act(call) {
-            Ok(deed) => deed,
-            Err(error) => return Ok(self.raise(error)),
-        };
-        let Ok(()) = send(&outgoing, stream) else {
-            self.failed = true;
-            return Err(WriteFault);
-        };
-        Ok(Answer {
-            raised: NO_ERROR,
-            told,
-        })
+        match call.act(self, stream) {
+            Ok(told) => {
+                Ok(Answer {
+                    raised: NO_ERROR,
+                    told,
+                })
+            }
+            Err(Stop::Raised(error)) => Ok(self.raise(error)),
+            Err(Stop::Unsent) => {
+                self.failed = true;
+                Err(WriteFault)
+            }
+        }
     }
 
     /// Answers a call: takes the page's step, sends its commands to the driver, and then writes its reply; `steps` counts the
     /// blocks and cells of index bytes that are read. Failed comes only where the number of faults of one of the sinks rose: then
     /// a prefix of the commands was sent and no reply was written, or all of them were sent and a prefix of the reply was written.
     #[inline(always)]
-    pub fn answer<O: Sink, S: Sink, L: Ledger>(
+    pub fn answer<C: Acts, O: Sink, S: Sink, L: Ledger>(
         &mut self,
-        call: &Call<'_>,
+        call: &C,
         out: &mut O,
         stream: &mut S,
         steps: &mut Steps<L>,
     ) -> Result<(), Failed>
         requires working { self.old.failed ≡ false }
-        requires fits { Fits call.now }
+        requires fits { Fits (C.whole_call call.now) }
         ensures steps { (w : PageState) (g : DriverState) → Stands self.old w g
-            → RepliesOrStops w g call.now self.new (S.held stream.old) (S.held stream.new) (O.held out.old) (O.held out.new) result }
+            → RepliesOrStops w g (C.whole_call call.now) self.new (S.held stream.old) (S.held stream.new) (O.held out.old) (O.held out.new) result }
         ensures replies { O.faults out.old ≤ O.faults out.new }
         ensures commands { S.faults stream.old ≤ S.faults stream.new }
         ensures cause { OnErr result (Rose (O.faults out.old) (O.faults out.new) ⊎ Rose (S.faults stream.old) (S.faults stream.new)) }

@@ -1,22 +1,11 @@
 ghost use Rattle.std.specs.Prelude.{◌≡◌};
-ghost use Rattle.gl_context.specs.declared.deed.Outgoing.TheVariants.{Nothing};
+ghost use Rattle.gl_context.specs.Deeds.{stopped};
 
-use command_stream::Command;
-
-/// The commands that a call is to send.
-#[derive(Clone, Copy)]
-pub(crate) enum Outgoing<'a> {
-    /// None.
-    Nothing,
-    /// One command.
-    One(Command<'a>),
-    /// Two commands, in this order.
-    Two(Command<'a>, Command<'a>),
-}
+use gl_numbers::GlError;
 
 /// What a call returns, in so few words that it costs little to hand on.
 #[derive(Clone, Copy)]
-pub(crate) enum Told {
+pub enum Told {
     /// No value.
     Nothing,
     /// A number.
@@ -27,25 +16,23 @@ pub(crate) enum Told {
     Four([u32; 4]),
 }
 
-/// What a call did that nothing refused: what it returns, and what is to be sent.
-#[derive(Drop)]
-pub(crate) struct Deed<'a> {
-    /// What the call returns.
-    pub told: Told,
-    /// The commands that the driver is to get.
-    pub outgoing: Outgoing<'a>,
+/// Why a call did not do all that it asks for.
+#[derive(Clone, Copy)]
+pub enum Stop {
+    /// It raises this error, and nothing was changed or sent.
+    Raised(GlError),
+    /// A write failed. A prefix of the call's commands was sent.
+    Unsent,
 }
 
-impl Deed<'_> {
-    /// A call that returns a value, and sends nothing.
-    #[inline(always)]
-    pub fn told(told: Told) -> Self
-        ensures { result ≡ record { told = told; outgoing = Nothing } }
-    {
-        Deed {
-            told,
-            outgoing: Outgoing::Nothing,
-        }
+/// The outcome of a call that sends nothing.
+#[inline(always)]
+pub(crate) fn quiet(returned: Result<Told, GlError>) -> Result<Told, Stop>
+    ensures { result ≡ stopped returned }
+{
+    match returned {
+        Ok(told) => Ok(told),
+        Err(error) => Err(Stop::Raised(error)),
     }
 }
 

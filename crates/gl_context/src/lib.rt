@@ -2,9 +2,10 @@
 //! sentence: each call is answered by the page's step, and the commands that it sends replay on the driver's machine
 //! without a fault to exactly the step's Shot (WebGL 1.0 section 5.14; OpenGL ES 2.0 chapter 2).
 //!
-//! A call is judged and acts on the stores without a sink; only then its commands are written.
+//! A call is judged and acts on the stores; only then its commands are written, one after the other.
 #![tactic(auto)]
 
+mod acts;
 mod attrib_calls;
 mod buffer_calls;
 mod context;
@@ -16,8 +17,9 @@ mod parameters;
 mod pixels;
 mod query_calls;
 mod raster_calls;
-mod sending;
 mod texture_calls;
 mod values;
 
+pub use acts::Acts;
 pub use context::{Context, Open, WriteFault};
+pub use deed::{Stop, Told};

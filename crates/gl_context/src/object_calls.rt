@@ -1,35 +1,43 @@
-ghost use Rattle.std.specs.Prelude.{◌≡◌, Ok, true, IfOk, IsSomeAnd};
-ghost use Rattle.gl_numbers.specs.ByHandle.{object_at};
+ghost use Rattle.std.specs.Prelude.{◌≡◌, Ok, true};
 ghost use Rattle.gl_numbers.specs.declared.kinds.Kind.TheVariants as kind;
-ghost use Rattle.object_names.specs.Objects.{IsOne, Finds};
+ghost use Rattle.wire_io.specs.Sinks.{Sends};
+ghost use Rattle.object_names.specs.Objects.{Finds};
 ghost use Rattle.object_names.specs.declared.entry.Find.TheVariants as find;
 ghost use Rattle.gl_model.specs.PageState.{PageState, is_live};
 ghost use Rattle.call_records.specs.declared.object_calls.ObjectKind.TheVariants as object;
 ghost use Rattle.gl_context.specs.ObjectRows.{object_row, create_row, delete_row, is_kind_row};
 ghost use Rattle.gl_context.specs.Stands.{Keeps, IsSound, buffer_name};
-ghost use Rattle.gl_context.specs.Deeds.{ActsBy, CanSend};
+ghost use Rattle.gl_context.specs.Deeds.{ActsBy, ReturnsBy, SendsBy, SendCause, map_ok};
+ghost use Rattle.gl_context.specs.Made.{made_buffer, dropped_buffer};
 
 use crate::context::Context;
-use crate::deed::{Deed, Outgoing, Told};
+use crate::deed::{Stop, Told};
+use crate::values::truth;
 use call_records::{New, ObjectCall, ObjectKind};
-use command_stream::{Command, ObjectCommand};
+use command_stream::{ObjectCommand, write_object_command};
 use gl_numbers::{GlError, Handle, Kind};
 use object_names::{Create, Find};
+use wire_io::Sink;
 
 impl Context {
     /// The calls that make, delete and tell objects.
     #[inline(always)]
-    pub(crate) fn object<'a>(&mut self, call: &ObjectCall) -> Result<Deed<'a>, GlError>
-        ensures acts { (w : PageState) → Keeps self.old w → IsSound w → ActsBy (object_row w call.now) w self.new result }
-        ensures sendable { IfOk result (λ deed. CanSend deed.outgoing) }
+    pub(crate) fn object<S: Sink>(
+        &mut self,
+        call: &ObjectCall,
+        stream: &mut S,
+    ) -> Result<Told, Stop>
+        ensures sends { (w : PageState) → Keeps self.old w → IsSound w
+            → SendsBy (object_row w call.now) w self.new (S.held stream.old) (S.held stream.new) result }
+        ensures cause { SendCause (S.faults stream.old) (S.faults stream.new) result }
         ensures failed { self.new.failed ≡ self.old.failed }
     {
         match call {
-            ObjectCall::Create(New::Buffer) => self.create_buffer(),
+            ObjectCall::Create(New::Buffer) => self.create_buffer(stream),
             ObjectCall::Delete {
                 kind: ObjectKind::Buffer,
                 handle,
-            } => self.delete_buffer(*handle),
+            } => self.delete_buffer(*handle, stream),
             ObjectCall::IsKind {
                 kind: ObjectKind::Buffer,
                 handle,
@@ -37,12 +45,10 @@ impl Context {
         }
     }
 
-    /// createBuffer (WebGL 1.0 section 5.14.5)
-    #[tactic(auto, using(crate::proofs::SentBytes::allowed_make))]
+    /// Makes a buffer: its handle, and the driver's name of it.
     #[inline(always)]
-    fn create_buffer<'a>(&mut self) -> Result<Deed<'a>, GlError>
-        ensures acts { (w : PageState) → Keeps self.old w → IsSound w → ActsBy (create_row w) w self.new result }
-        ensures sendable { IfOk result (λ deed. CanSend deed.outgoing) }
+    fn make_buffer(&mut self) -> Result<(Handle, u32), GlError>
+        ensures acts { (w : PageState) → Keeps self.old w → IsSound w → ActsBy (create_row w) w self.new (map_ok made_buffer result) }
         ensures failed { self.new.failed ≡ self.old.failed }
     {
         let (handle, name) = match self.names.room(Kind::Buffer) {
@@ -54,10 +60,25 @@ impl Context {
             return Err(GlError::Memory);
         };
         self.names.create(Kind::Buffer);
-        Ok(Deed {
-            told: Told::Number(handle),
-            outgoing: Outgoing::One(Command::Object(ObjectCommand::MakeBuffer(name))),
-        })
+        Ok((handle, name))
+    }
+
+    /// createBuffer (WebGL 1.0 section 5.14.5)
+    #[inline(always)]
+    fn create_buffer<S: Sink>(&mut self, stream: &mut S) -> Result<Told, Stop>
+        ensures sends { (w : PageState) → Keeps self.old w → IsSound w
+            → SendsBy (create_row w) w self.new (S.held stream.old) (S.held stream.new) result }
+        ensures cause { SendCause (S.faults stream.old) (S.faults stream.new) result }
+        ensures failed { self.new.failed ≡ self.old.failed }
+    {
+        let (handle, name) = match self.make_buffer() {
+            Ok(made) => made,
+            Err(error) => return Err(Stop::Raised(error)),
+        };
+        let Ok(()) = write_object_command(&ObjectCommand::MakeBuffer(name), stream) else {
+            return Err(Stop::Unsent);
+        };
+        Ok(Told::Number(handle))
     }
 
     /// The driver's name of a live buffer.
@@ -82,12 +103,11 @@ impl Context {
         self.attributes.buffer_gone(handle);
     }
 
-    /// deleteBuffer (WebGL 1.0 section 5.14.5)
-    #[tactic(auto, using(crate::proofs::SentBytes::allowed_drop))]
+    /// Deletes the buffer of a handle: the driver's name of it, where there was one.
     #[inline(always)]
-    fn delete_buffer<'a>(&mut self, handle: Handle) -> Result<Deed<'a>, GlError>
-        ensures acts { (w : PageState) → Keeps self.old w → IsSound w → ActsBy (delete_row w object.Buffer handle) w self.new result }
-        ensures sendable { IfOk result (λ deed. CanSend deed.outgoing) }
+    fn drop_buffer(&mut self, handle: Handle) -> Result<Option<u32>, GlError>
+        ensures acts { (w : PageState) → Keeps self.old w → IsSound w
+            → ActsBy (delete_row w object.Buffer handle) w self.new (map_ok dropped_buffer result) }
         ensures failed { self.new.failed ≡ self.old.failed }
     {
         match self.names.find(handle, Kind::Buffer) {
@@ -95,22 +115,36 @@ impl Context {
             Find::Live => {
                 let name = self.buffer_name(handle);
                 self.mark_buffer(handle);
-                Ok(Deed {
-                    told: Told::Nothing,
-                    outgoing: Outgoing::One(Command::Object(ObjectCommand::DropBuffer(name))),
-                })
+                Ok(Some(name))
             }
-            _ => Ok(Deed::told(Told::Nothing)),
+            _ => Ok(None),
         }
+    }
+
+    /// deleteBuffer (WebGL 1.0 section 5.14.5)
+    #[inline(always)]
+    fn delete_buffer<S: Sink>(&mut self, handle: Handle, stream: &mut S) -> Result<Told, Stop>
+        ensures sends { (w : PageState) → Keeps self.old w → IsSound w
+            → SendsBy (delete_row w object.Buffer handle) w self.new (S.held stream.old) (S.held stream.new) result }
+        ensures cause { SendCause (S.faults stream.old) (S.faults stream.new) result }
+        ensures failed { self.new.failed ≡ self.old.failed }
+    {
+        let name = match self.drop_buffer(handle) {
+            Ok(Some(name)) => name,
+            Ok(None) => return Ok(Told::Nothing),
+            Err(error) => return Err(Stop::Raised(error)),
+        };
+        let Ok(()) = write_object_command(&ObjectCommand::DropBuffer(name), stream) else {
+            return Err(Stop::Unsent);
+        };
+        Ok(Told::Nothing)
     }
 
     /// isBuffer (WebGL 1.0 section 5.14.5)
     #[inline(always)]
-    fn is_buffer<'a>(&self, handle: Handle) -> Deed<'a>
-        ensures acts { (w : PageState) → Keeps self.now w → ActsBy (is_kind_row w object.Buffer handle) w self.now (Ok result) }
-        ensures sendable { CanSend result.outgoing }
+    fn is_buffer(&self, handle: Handle) -> Told
+        ensures acts { (w : PageState) → Keeps self.now w → ReturnsBy (is_kind_row w object.Buffer handle) w self.now (Ok result) }
     {
-        let is_live = self.names.is_kind(handle, Kind::Buffer);
-        Deed::told(Told::Number(if is_live { 1 } else { 0 }))
+        truth(self.names.is_kind(handle, Kind::Buffer))
     }
 }

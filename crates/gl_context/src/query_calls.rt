@@ -1,12 +1,12 @@
-ghost use Rattle.std.specs.Prelude.{◌≡◌, Ok, IfOk};
+ghost use Rattle.std.specs.Prelude.{◌≡◌, Ok};
 ghost use Rattle.gl_model.specs.PageState.{PageState};
 ghost use Rattle.gl_context.specs.QueryRows.{error_row, is_enabled_row, parameter_row, query_row};
 ghost use Rattle.gl_context.specs.ParameterValues.{parameter_value};
 ghost use Rattle.gl_context.specs.Stands.{Keeps};
-ghost use Rattle.gl_context.specs.Deeds.{ActsBy, CanSend, value_in};
+ghost use Rattle.gl_context.specs.Deeds.{ReturnsBy, value_in};
 
 use crate::context::Context;
-use crate::deed::{Deed, Told};
+use crate::deed::Told;
 use crate::parameters::raster_value;
 use crate::values::truth;
 use call_records::QueryCall;
@@ -15,9 +15,8 @@ use gl_numbers::{Capability, GlError, Parameter};
 impl Context {
     /// The calls that ask for the state of the context.
     #[inline(always)]
-    pub(crate) fn query<'a>(&mut self, call: &QueryCall) -> Result<Deed<'a>, GlError>
-        ensures acts { (w : PageState) → Keeps self.old w → ActsBy (query_row w call.now) w self.new result }
-        ensures sendable { IfOk result (λ deed. CanSend deed.outgoing) }
+    pub(crate) fn query(&mut self, call: &QueryCall) -> Result<Told, GlError>
+        ensures acts { (w : PageState) → Keeps self.old w → ReturnsBy (query_row w call.now) w self.new result }
         ensures failed { self.new.failed ≡ self.old.failed }
     {
         match call {
@@ -29,25 +28,23 @@ impl Context {
 
     /// isEnabled (WebGL 1.0 section 5.14.3)
     #[inline(always)]
-    fn is_enabled<'a>(&self, word: u32) -> Result<Deed<'a>, GlError>
-        ensures acts { (w : PageState) → Keeps self.now w → ActsBy (is_enabled_row w word) w self.now result }
-        ensures sendable { IfOk result (λ deed. CanSend deed.outgoing) }
+    fn is_enabled(&self, word: u32) -> Result<Told, GlError>
+        ensures acts { (w : PageState) → Keeps self.now w → ReturnsBy (is_enabled_row w word) w self.now result }
     {
         let Some(capability) = Capability::from_u32(word) else {
             return Err(GlError::Enum);
         };
         let on = self.raster.words().enabled[capability.place()];
-        Ok(Deed::told(truth(on)))
+        Ok(truth(on))
     }
 
     /// getError (WebGL 1.0 section 5.14.3)
     #[inline(always)]
-    fn get_error<'a>(&mut self) -> Deed<'a>
-        ensures acts { (w : PageState) → Keeps self.old w → ActsBy (error_row w) w self.new (Ok result) }
-        ensures sendable { CanSend result.outgoing }
+    fn get_error(&mut self) -> Told
+        ensures acts { (w : PageState) → Keeps self.old w → ReturnsBy (error_row w) w self.new (Ok result) }
         ensures failed { self.new.failed ≡ self.old.failed }
     {
-        Deed::told(Told::Number(self.errors.take()))
+        Told::Number(self.errors.take())
     }
 
     /// What the state has for a parameter; no buffer is 0.
@@ -65,12 +62,11 @@ impl Context {
 
     /// getParameter (WebGL 1.0 section 5.14.3)
     #[inline(always)]
-    fn get_parameter<'a>(&self, name: u32) -> Result<Deed<'a>, GlError>
-        ensures acts { (w : PageState) → Keeps self.now w → ActsBy (parameter_row w name) w self.now result }
-        ensures sendable { IfOk result (λ deed. CanSend deed.outgoing) }
+    fn get_parameter(&self, name: u32) -> Result<Told, GlError>
+        ensures acts { (w : PageState) → Keeps self.now w → ReturnsBy (parameter_row w name) w self.now result }
     {
         match Parameter::from_u32(name) {
-            Some(parameter) => Ok(Deed::told(self.parameter_value(parameter))),
+            Some(parameter) => Ok(self.parameter_value(parameter)),
             None => Err(GlError::Enum),
         }
     }

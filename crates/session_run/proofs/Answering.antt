@@ -12,7 +12,8 @@ use Rattle.gl_model.specs.PageState.{PageState}
 use Rattle.gl_model.specs.DriverState.{DriverState}
 use Rattle.gl_context.specs.PageStep.{is_out_of_memory}
 use Rattle.gl_context.specs.Stands.{Kept}
-use Rattle.gl_context.specs.Steps.{Steps, Stops, RepliesOrStops, bytes_of}
+use Rattle.gl_context.specs.Sent.{bytes_of}
+use Rattle.gl_context.specs.Steps.{Steps, Stops, RepliesOrStops}
 use Rattle.session_run.specs.Ends.{sinks}
 use Rattle.session_run.specs.Loop.{OneDriven, AnswersOne, OneCut}
 

@@ -1,10 +1,9 @@
 -- The loop over records: its start, one more call, and a call that was cut short.
-use Rattle.std.proofs.Common.{◌≡◌, ℕ, ◌+◌, ◌-◌, ◌<◌, ◌≤◌, ◌^◌, Option, Some, None, List, [], ◌∷◌, ◌++◌, length, Bor, refl, sym, ap, subst, ◌∙◌, arith, length-append}
+use Rattle.std.proofs.Common.{◌≡◌, ℕ, ◌+◌, ◌≤◌, ◌^◌, Option, Some, None, List, [], ◌∷◌, ◌++◌, length, Bor, refl, sym, ap, subst, ◌∙◌, arith, length-append}
 use Rattle.std.specs.Option.{option_to_list}
 use Rattle.std.specs.Io.KnownBytes.{prepend_known, append_known}
 use Rattle.wire_io.proofs.Known.{taken_twice, sent_twice}
 use Rattle.std.proofs.lemmas.Grind.{flat_map-append}
-use Rattle.gl_numbers.proofs.Bytes.{length-le32}
 use Rattle.call_records.specs.declared.calls.Call.{Call}
 use Rattle.gl_numbers.specs.Bytes.{le32}
 use Rattle.call_records.specs.declared.operations.Operation.{Operation}
@@ -21,7 +20,7 @@ use Rattle.gl_model.specs.DriverState.{DriverState, first_driver}
 use Rattle.gl_context.specs.PageStep.{step}
 use Rattle.gl_context.specs.PageRun.{Taken, page_after, replies, shots, OutOfMemoryAllowed, all_sent}
 use Rattle.gl_context.specs.Stands.{Kept, Stands}
-use Rattle.gl_context.specs.Steps.{bytes_of}
+use Rattle.gl_context.specs.Sent.{bytes_of}
 use Rattle.session_run.specs.Ends.{Sinks, Ends}
 use Rattle.session_run.specs.Serving.{calls_of, records_of, answered_by, HasRoomAfter, AreTaken, Drives, Progress}
 use Rattle.session_run.specs.Loop.{SoFar, OneAnswered, OneCut, RanUntilCut}

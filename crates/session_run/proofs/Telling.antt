@@ -14,7 +14,7 @@ use Rattle.gl_model.specs.DriverState.{DriverState, first_driver}
 use Rattle.gl_model.specs.Replay.{Replayed}
 use Rattle.gl_context.specs.PageStep.{step}
 use Rattle.gl_context.specs.PageRun.{Taken, step_taken, page_after, replies, shots, all_sent}
-use Rattle.gl_context.specs.Steps.{bytes_of}
+use Rattle.gl_context.specs.Sent.{bytes_of}
 use Rattle.session_run.specs.Ends.{Ends, ends}
 use Rattle.session_run.specs.Serving.{calls_of, records_of, answered_by, AreTaken, Drives}
 use Rattle.session_run.specs.Loop.{ReadWhole, ReadRefused, RanUntilCut, RunsRecords}

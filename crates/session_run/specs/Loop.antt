@@ -16,9 +16,8 @@ use Rattle.gl_model.specs.PageState.{PageState, first_page}
 use Rattle.gl_model.specs.DriverState.{DriverState}
 use Rattle.gl_context.specs.PageStep.{step, MayBeOutOfMemory, is_out_of_memory}
 use Rattle.gl_context.specs.PageRun.{Taken, page_after}
-use Rattle.gl_context.specs.Sent.{sent}
+use Rattle.gl_context.specs.Sent.{sent, bytes_of}
 use Rattle.gl_context.specs.Stands.{Kept, Stands}
-use Rattle.gl_context.specs.Steps.{bytes_of}
 use Rattle.session_run.specs.Ends.{Sinks, Ends}
 use Rattle.session_run.specs.Serving.{calls_of, records_of, place_after, HasRoomAfter, Drives, Progress}
 use Rattle.session_run.specs.declared.records.RunEnd.{RunEnd}

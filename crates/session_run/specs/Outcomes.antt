@@ -17,8 +17,7 @@ use Rattle.gl_model.specs.DriverState.{first_driver}
 use Rattle.gl_model.specs.Replay.{replay}
 use Rattle.gl_context.specs.PageStep.{MayBeOutOfMemory}
 use Rattle.gl_context.specs.PageRun.{Taken, step_taken, page_after, replies, shots, all_sent}
-use Rattle.gl_context.specs.Sent.{sent}
-use Rattle.gl_context.specs.Steps.{bytes_of}
+use Rattle.gl_context.specs.Sent.{sent, bytes_of}
 use Rattle.session_run.specs.Ends.{Ends}
 use Rattle.session_run.specs.Unchanged.{ErrorsChangeNothing}
 use Rattle.session_run.specs.Serving.{calls_of, records_of, answered_by, place_after, HasRoomAfter, AreTaken}

@@ -15,7 +15,7 @@ use Rattle.gl_model.specs.Replay.{replay, clean}
 use Rattle.gl_model.specs.Shot.{Shot}
 use Rattle.gl_context.specs.PageStep.{is_out_of_memory}
 use Rattle.gl_context.specs.PageRun.{Taken, replies, shots, OutOfMemoryAllowed, all_sent}
-use Rattle.gl_context.specs.Steps.{bytes_of}
+use Rattle.gl_context.specs.Sent.{bytes_of}
 use Rattle.session_run.specs.Ends.{Sinks}
 
 -- the calls that were taken

@@ -11,9 +11,9 @@ ghost use Rattle.session_run.specs.Loop.{AnswersOne, Serves, RunsRecords, IsReco
 ghost use Rattle.session_run.specs.Causes.{AnswerCause, RunCause};
 
 use call_records::{
-    Call, HEADER_BYTES, Operation, ReadEnd, RecordBuf, Subject, Unread, read_record,
+    HEADER_BYTES, Operation, ReadEnd, RecordBuf, Subject, Unread, call_of, read_record,
 };
-use gl_context::Context;
+use gl_context::{Acts, Context};
 use std::sync::ledger::Ledger;
 use step_count::Steps;
 use wire_io::{Failed, Sink, Source};
@@ -29,40 +29,42 @@ pub enum RunEnd {
 
 /// Answers one call: sends its commands, and then writes its reply.
 #[inline(always)]
-fn answer<O: Sink, T: Sink, L: Ledger>(
+fn answer<C: Acts, O: Sink, T: Sink, L: Ledger>(
     context: &mut Context,
-    call: &Call<'_>,
+    call: &C,
     out: &mut O,
     stream: &mut T,
     steps: &mut Steps<L>,
 ) -> Result<(), Failed>
-    requires fits { Fits call.now }
+    requires fits { Fits (C.whole_call call.now) }
     requires working { context.old.failed ≡ false }
-    ensures answers { (w : PageState) (g : DriverState) → Stands context.old w g → AnswersOne w g call.now context.new
+    ensures answers { (w : PageState) (g : DriverState) → Stands context.old w g → AnswersOne w g (C.whole_call call.now) context.new
         (sinks (O.held out.old) (T.held stream.old)) (sinks (O.held out.new) (T.held stream.new)) result }
     ensures cause { AnswerCause (O.faults out.old) (O.faults out.new) (T.faults stream.old) (T.faults stream.new) result }
 {
     context.answer(call, out, stream, steps)
 }
 
-/// Answers the call of a record: reads its fields, and answers it. Compiled once for each subject, so that no call waits for the
-/// fields of those of other subjects.
+/// Answers the call of a record: reads its fields, and answers it. Compiled once for each subject, so that no call waits for those
+/// of other subjects.
 #[inline(never)]
-fn serve<K: Subject, O: Sink, T: Sink, L: Ledger>(
+fn serve<'a, K: Subject<'a>, O: Sink, T: Sink, L: Ledger>(
     context: &mut Context,
     subject: K,
-    body: &[u8],
+    body: &'a [u8],
     out: &mut O,
     stream: &mut T,
     steps: &mut Steps<L>,
 ) -> Result<(), Failed>
+where
+    K::Call: Acts + Copy,
     requires allowed { allows BODY_MAX (row_of (K.whole subject)) (length body.now) ≡ true }
     requires working { context.old.failed ≡ false }
     ensures serves { Serves (K.whole subject) body.now context.old context.new
         (sinks (O.held out.old) (T.held stream.old)) (sinks (O.held out.new) (T.held stream.new)) result }
     ensures cause { AnswerCause (O.faults out.old) (O.faults out.new) (T.faults stream.old) (T.faults stream.new) result }
 {
-    let call = Call::of(subject.whole(), body);
+    let call = call_of(subject, body);
     answer(context, &call, out, stream, steps)
 }
 

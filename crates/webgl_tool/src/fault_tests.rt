@@ -55,13 +55,13 @@ fn a_failing_reply_leaves_its_commands_whole(rt: HostRuntime) -> Result<(), Fail
 #[test]
 fn a_call_whose_command_fails_has_no_reply(rt: HostRuntime) -> Result<(), Fail> {
     let mut call = 0u64;
-    // a BufferBytes is written in two pieces; the last call is the flush, after which the replies are flushed too
+    // what a bufferData sends is written in two pieces, of which the second is the bytes; the last call is the flush, after which the
+    // replies are flushed too
     for left in [
         (0usize, 0usize),
         (0, 8),
         (12, 20),
         (20, 36),
-        (20, 56),
         (20, 72),
         (40, 74),
     ] {

@@ -35,7 +35,7 @@ impl Model for Buffer {
 }
 
 /// Copies as many bytes of the piece as fit after the first `end`, and returns how many.
-#[inline]
+#[inline(always)]
 fn append_at(bytes: &mut [u8], end: usize, piece: &[u8]) -> usize
     requires { end ≤ length bytes.old }
     ensures fits { result ≡ min (length piece.now) (length bytes.old - end) }
@@ -95,7 +95,7 @@ impl Buffer {
     }
 
     /// Takes as much of the piece as there is room for, and returns how many bytes.
-    #[inline]
+    #[inline(always)]
     fn put(&mut self, piece: &[u8]) -> usize
         ensures fits { result ≡ min (length piece.now) self.old.room }
         ensures content { self.new.waiting ≡ self.old.waiting ++ take result piece.now }
@@ -169,7 +169,7 @@ impl Buffer {
     }
 
     /// Takes all of the piece where there is room for it.
-    #[inline]
+    #[inline(always)]
     pub fn keep(&mut self, piece: &[u8]) -> bool
         ensures kept { result ≡ true → self.new.waiting ≡ self.old.waiting ++ piece.now }
         ensures left { result ≡ false → self.new ≡ self.old }

@@ -1,7 +1,7 @@
 ghost use Rattle.std.specs.Prelude.{◌≡◌, ◌+◌, ◌-◌, ◌<◌, ◌≤◌, [], ◌++◌, min, length, take, drop};
 
 /// Copies as many bytes as fit from the start of `from` to the start of `into`, and returns how many.
-#[inline]
+#[inline(always)]
 pub fn copy_prefix(from: &[u8], into: &mut [u8]) -> usize
     ensures fits { result ≡ min (length from.now) (length into.old) }
     ensures content { into.new ≡ take result from.now ++ drop result into.old }

@@ -74,7 +74,7 @@ impl<'a, R: Files + Drop> Sink for LazyFile<'a, R> {
 
     ghost handed_on = { λ s. s.unsent.waiting ≡ [] };
 
-    #[inline]
+    #[inline(always)]
     fn keep(&mut self, bytes: &[u8]) -> bool {
         self.file.is_some() && self.unsent.keep(bytes)
     }

@@ -43,7 +43,7 @@ pub trait Sink {
 }
 
 /// Writes until all of the bytes are taken, which most sinks do at once; after Failed a prefix of them was appended.
-#[inline]
+#[inline(always)]
 pub fn write_all<K: Sink>(bytes: &[u8], out: &mut K) -> Result<(), Failed>
     ensures bytes { Sends (K.held out.old) (K.held out.new) result bytes.now }
     ensures cause { HasCause (K.faults out.old) (K.faults out.new) result }

@@ -97,7 +97,7 @@ impl<W: Write + Drop> Sink for StdSink<W> {
 
     ghost handed_on = { λ s. s.waiting ≡ [] };
 
-    #[inline]
+    #[inline(always)]
     fn keep(&mut self, bytes: &[u8]) -> bool {
         self.unsent.keep(bytes)
     }

@@ -1,5 +1,5 @@
 -- Each call whose record is read and that is answered joins those that were taken.
-use Rattle.std.proofs.Common.{arith, ◌≡◌, ◌≤◌, ◌+◌, ◌^◌, length}
+use Rattle.std.proofs.Common.{arith, ◌≤◌, ◌+◌, ◌^◌}
 use Rattle.gl_numbers.proofs.FieldsOfCommands.{allows-most}
 use Rattle.call_records.specs.declared.operations.TheConstants.{BODY_MAX}
 use Rattle.call_records.specs.Operations.{row_of}

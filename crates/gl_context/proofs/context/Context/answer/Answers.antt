@@ -9,4 +9,4 @@ returns-in_default-clause-steps g c = λ w driver stands.
 
 pub returns-clause-steps : goal.returns-clause-steps
 returns-clause-steps g c = λ w driver stands.
-    replied w driver c.args.call.now _ _ _ _ _ _ _ (c.in-Ok.ensures.steps w driver stands) c.write_answer.ensures.bytes
+    replied w driver (g.C.SubjectCall.whole_call c.args.call.now) _ _ _ _ _ _ _ (c.in-Ok.ensures.steps w driver stands) c.write_answer.ensures.bytes

@@ -1,16 +1,20 @@
--- The store binds what the page binds.
-use Rattle.std.proofs.Common.{Some, refl, sym}
-use Rattle.gl_numbers.specs.BufferBindings.{bind}
-use Rattle.buffer_store.specs.StoredBuffer.{with_first}
-use Rattle.gl_context.proofs.Acting.{acts-bind}
-use Rattle.gl_context.proofs.Tying.{tied-changed}
+-- The command of what was bound was sent.
+use Rattle.std.proofs.Common.{Ok, Err, refl}
+use Rattle.command_stream.specs.declared.command.Command.TheVariants.{Buffer}
+use Rattle.command_stream.specs.declared.buffer_commands.BufferCommand.TheVariants.{BindBuffer}
+use Rattle.gl_context.specs.BufferRows.{bind_row}
+use Rattle.gl_context.specs.Made.{bound_buffer}
+use Rattle.gl_context.specs.declared.deed.Told.TheVariants.{Nothing}
+use Rattle.gl_context.proofs.SentBytes.{sends_one}
+use Rattle.gl_context.proofs.Sending.{sends_all, sends_part}
 use Rattle.gl_context.proofs.context.Context.bind_buffer.Goals as goal
 
-pub invariant_of-self-2 : goal.invariant_of-self-2
-invariant_of-self-2 c = rw (c.in_default-bind.ensures.ok) (tied-changed c.self.inside.names c.self.inside.buffers (bind (Some c.in-Some.to) c.in-Ok.bindable.0 c.self.inside.buffers.bound) c.in-Ok.bindable.0 (with_first c.in-Some.to) c.self.invariant)
+pub returns-in_default-clause-sends : goal.returns-in_default-clause-sends
+returns-in_default-clause-sends g c w k sound =
+    sends_part (bind_row w c.args.target c.args.handle) w _ _ _ (bound_buffer c.args.target c.in-Ok.name) (c.in-Ok.ensures.acts w k sound)
+    (sends_one {T = Unit {0}} {E = Unit {0}} _ _ (Err tt) (Buffer (BindBuffer c.args.target c.in-Ok.name)) c.in_default.ensures.bytes)
 
-pub returns-clause-acts : goal.returns-clause-acts
-returns-clause-acts c w k sound =
-    let acts = acts-bind _ w c.in-Some.to c.args.target c.args.handle c.in-Ok.bindable.0 c.bind.new.self (rw (← c.self.view_is) at k) sound
-    (sym c.in-Some.ensures) (c.in-Ok.ensures.judged w k sound) c.in-Ok.ensures.bound.0 c.in_default-bind.ensures.judged c.in_default-bind.ensures.ok in
-    (acts.0, acts.1, refl, rw c.in-Ok.ensures.bound.1 refl)
+pub returns-clause-sends : goal.returns-clause-sends
+returns-clause-sends g c w k sound =
+    sends_all (bind_row w c.args.target c.args.handle) w _ _ _ (bound_buffer c.args.target c.in-Ok.name) Nothing (c.in-Ok.ensures.acts w k sound) refl
+    (sends_one {T = Unit {0}} {E = Unit {0}} _ _ (Ok tt) (Buffer (BindBuffer c.args.target c.in-Ok.name)) c.in-Ok-write_buffer_command.ensures.bytes)

@@ -1,17 +1,15 @@
--- The store fills what the page fills.
-use Rattle.std.proofs.Common.{refl, sym, ◌∙◌}
-use Rattle.gl_numbers.specs.BufferBindings.{binding}
-use Rattle.buffer_store.specs.Content.{buffer_of}
-use Rattle.gl_context.proofs.Acting.{acts-data}
-use Rattle.gl_context.proofs.Sent.{content-fill}
-use Rattle.gl_context.proofs.Tying.{tied-changed}
+-- The commands of the content were sent.
+use Rattle.std.proofs.Common.{refl}
+use Rattle.gl_context.specs.BufferRows.{data_row}
+use Rattle.gl_context.specs.Made.{filled_buffer}
+use Rattle.gl_context.specs.declared.deed.Told.TheVariants.{Nothing}
+use Rattle.gl_context.proofs.Sending.{sends_all, sends_part}
 use Rattle.gl_context.proofs.context.Context.buffer_data.Goals as goal
 
-pub invariant_of-self-2 : goal.invariant_of-self-2
-invariant_of-self-2 c = rw (c.in_default-data.ensures.ok) (tied-changed c.self.inside.names c.self.inside.buffers c.self.inside.buffers.bound (binding c.self.inside.buffers.bound c.in-Some-Some.to) (λ _. buffer_of c.in-Some-Some.to c.in-Some.content c.in-Some-Some.used) c.self.invariant)
+pub returns-in_default-clause-sends : goal.returns-in_default-clause-sends
+returns-in_default-clause-sends g c w k sound =
+    sends_part (data_row w c.args.target c.args.usage c.args.fill) w _ _ _ (filled_buffer c.args.target c.args.usage c.in-Ok.content) (c.in-Ok.ensures.acts w k sound) c.in_default.ensures.bytes
 
-pub returns-clause-acts : goal.returns-clause-acts
-returns-clause-acts c w k sound =
-    let acts = acts-data _ w c.in-Some-Some.to c.in-Some-Some.used c.args.target c.args.usage c.args.fill c.in-Some.content c.data.new.self (rw (← c.self.view_is) at k) sound
-    (sym c.in-Some-Some.ensures) (sym c.in-Some-Some.ensures') c.in-Some.ensures c.in_default-data.ensures.judged c.in_default-data.ensures.ok in
-    (acts.0, acts.1, refl, c.content_sent.ensures.commands ∙ content-fill c.args.target c.args.usage c.args.fill c.in-Some.content c.in-Some.ensures)
+pub returns-clause-sends : goal.returns-clause-sends
+returns-clause-sends g c w k sound =
+    sends_all (data_row w c.args.target c.args.usage c.args.fill) w _ _ _ (filled_buffer c.args.target c.args.usage c.in-Ok.content) Nothing (c.in-Ok.ensures.acts w k sound) refl c.in-Ok-send_content.ensures.bytes

@@ -1,24 +1,20 @@
--- A new buffer, named and stored.
-use Rattle.std.proofs.Common.{◌≡◌, ◌+◌, None, [], ◌∷◌, length, ap, ◌∙◌}
-use Rattle.gl_numbers.specs.declared.kinds.Kind.TheVariants as kind
-use Rattle.object_names.specs.Objects.{next_handle, driver_name}
-use Rattle.call_records.specs.declared.replies.Value.TheVariants.{Number}
-use Rattle.command_stream.specs.declared.command.Command.TheVariants as Command
+-- The command of a new buffer was sent.
+use Rattle.std.proofs.Common.{Ok, Err, refl}
+use Rattle.command_stream.specs.declared.command.Command.TheVariants.{Object}
 use Rattle.command_stream.specs.declared.object_commands.ObjectCommand.TheVariants.{MakeBuffer}
-use Rattle.gl_context.proofs.Acting.{acts-create}
-use Rattle.gl_context.proofs.Tying.{tied-create}
+use Rattle.gl_context.specs.ObjectRows.{create_row}
+use Rattle.gl_context.specs.Made.{made_buffer}
+use Rattle.gl_context.specs.declared.deed.Told.TheVariants.{Number}
+use Rattle.gl_context.proofs.SentBytes.{sends_one}
+use Rattle.gl_context.proofs.Sending.{sends_all, sends_part}
 use Rattle.gl_context.proofs.context.Context.create_buffer.Goals as goal
 
-pub invariant_of-self-2 : goal.invariant_of-self-2
-invariant_of-self-2 c =
-    let e : c.in-Ok.made.0 ≡ next_handle c.self.inside.names = ap (λ p. p.0) c.in-Ok.ensures.value in
-    rw (c.create.ensures.after, c.in-Ok-add.ensures.ok, c.in-Ok.ensures.ok, e) (tied-create c.self.inside.names c.self.inside.buffers None c.self.invariant)
+pub returns-in_default-clause-sends : goal.returns-in_default-clause-sends
+returns-in_default-clause-sends g c w k sound =
+    sends_part (create_row w) w _ _ _ (made_buffer c.in-Ok.made) (c.in-Ok.ensures.acts w k sound)
+    (sends_one {T = Unit {0}} {E = Unit {0}} _ _ (Err tt) (Object (MakeBuffer c.in-Ok.made.1)) c.in_default.ensures.bytes)
 
-pub returns-clause-acts : goal.returns-clause-acts
-returns-clause-acts c w k sound =
-    let k' = rw (← c.self.view_is) at k in
-    let e : c.in-Ok.made.0 ≡ next_handle c.self.inside.names = ap (λ p. p.0) c.in-Ok.ensures.value in
-    let named : c.in-Ok.made.1 ≡ driver_name kind.Buffer (next_handle c.self.inside.names) = ap (λ p. p.1) c.in-Ok.ensures.value in
-    let next : next_handle c.self.inside.names ≡ length w.objects + 1 = ap (λ n. n + 1) k'.names.count in
-    let acts = acts-create _ w None k' sound (λ h. absurd cc (c.in-Ok.ensures.spent.1 h)) in
-    (acts.0, rw (c.create.ensures.after, c.in-Ok-add.ensures.ok, c.in-Ok.ensures.ok, e) acts.1, ap Number (e ∙ next), ap (λ n. Command.Object (MakeBuffer n) ∷ []) (named ∙ ap (driver_name kind.Buffer) next))
+pub returns-clause-sends : goal.returns-clause-sends
+returns-clause-sends g c w k sound =
+    sends_all (create_row w) w _ _ _ (made_buffer c.in-Ok.made) (Number c.in-Ok.made.0) (c.in-Ok.ensures.acts w k sound) refl
+    (sends_one {T = Unit {0}} {E = Unit {0}} _ _ (Ok tt) (Object (MakeBuffer c.in-Ok.made.1)) c.in-Ok-write_object_command.ensures.bytes)
