@@ -61,6 +61,9 @@ fn read_task<R: Env + Files + AllocGlobal>(rt: &R) -> Option<Task> {
 /// How lexing ended, as a number of the script's table, and the count of tokens.
 fn lexed(alloc: Global, source: &[u8], times: u32) -> (u8, usize) {
     let mut count = 0;
+    if source.len() > 262_144 {
+        return (4, 0);
+    }
     for _ in 0..times {
         let Ok(tokens) = lex(alloc, source) else {
             return (5, 0);
