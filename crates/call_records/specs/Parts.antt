@@ -5,6 +5,8 @@ use Rattle.gl_numbers.specs.Bytes.{le32}
 use Rattle.call_records.specs.declared.operations.Operation.{Operation}
 use Rattle.call_records.specs.declared.reading.Head as Heads
 use Rattle.call_records.specs.declared.reading.Head.TheVariants.{Closing, Record}
+use Rattle.call_records.specs.declared.reading.Next as Nexts
+use Rattle.call_records.specs.declared.reading.Next.TheVariants as Next
 use Rattle.call_records.specs.declared.reading.ReadEnd.{ReadEnd}
 use Rattle.call_records.specs.declared.reading.ReadEnd.TheVariants.{Truncated, UnknownOp, BodyLong, BodyShape, AfterEnd, ReadFault}
 use Rattle.gl_numbers.specs.Fields.{allows}
@@ -54,6 +56,12 @@ abbrev pub TakesHead : Option (List ℕ) → Option (List ℕ) → Heads.Head �
 TakesHead old new Closing = old ≡ prepend_known closing_record new
 TakesHead old new (Record operation len) =
     (old ≡ prepend_known (le32 (row_of operation).number ++ le32 len) new) × IsHeader (row_of operation).number len operation
+
+-- the header of a call, or the closing record, that was taken
+abbrev pub TakesNext : Option (List ℕ) → Option (List ℕ) → Nexts.Next → Type 0
+TakesNext old new (Next.Call operation len) =
+    (old ≡ prepend_known (le32 (row_of operation).number ++ le32 len) new) × IsHeader (row_of operation).number len operation
+TakesNext old new Next.End = old ≡ prepend_known closing_record new
 
 -- what is seen after the closing record
 abbrev pub EndsClosed : ℕ → Option (List ℕ) → Option (List ℕ) → Result (Unit {0}) ReadEnd → Type 0

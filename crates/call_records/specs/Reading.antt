@@ -7,6 +7,8 @@ use Rattle.call_records.specs.declared.reading.Step as Steps
 use Rattle.call_records.specs.declared.reading.Step.TheVariants.{Call, End}
 use Rattle.call_records.specs.declared.reading.Unread as Unreads
 use Rattle.call_records.specs.declared.reading.Unread.TheVariants as Unread
+use Rattle.call_records.specs.declared.reading.Next as Nexts
+use Rattle.call_records.specs.declared.reading.Next.TheVariants as Next
 use Rattle.call_records.specs.declared.reading.ReadEnd.{ReadEnd}
 use Rattle.call_records.specs.declared.reading.ReadEnd.TheVariants.{Truncated, Magic, Version, UnknownOp, BodyLong, BodyShape, AfterEnd, InputLong, ReadFault}
 use Rattle.gl_numbers.specs.Fields.{allows}
@@ -104,6 +106,12 @@ abbrev pub AnswersUnread : ℕ → List ℕ → List ℕ → Result Unreads.Unre
 AnswersUnread at old new (Ok (Unread.Call operation body)) = old ≡ unread_encoding (Unread.Call operation body) ++ new
 AnswersUnread at old new (Ok Unread.End) = (old ≡ closing_record) × (new ≡ [])
 AnswersUnread at old new (Err e) = Refuses at old new e
+
+-- what reading the header of the record at an offset returns, where a call's body is left unread
+abbrev pub AnswersNext : ℕ → List ℕ → List ℕ → Result Nexts.Next ReadEnd → Type 0
+AnswersNext at old new (Ok (Next.Call operation len)) = old ≡ (le32 (row_of operation).number ++ le32 len) ++ new
+AnswersNext at old new (Ok Next.End) = (old ≡ closing_record) × (new ≡ [])
+AnswersNext at old new (Err e) = Refuses at old new e
 
 -- the number of faults hasn't fallen, and ReadFault is returned only where it rose
 pub record ReadCause {T : Type 0} (before now : ℕ) (result : Result T ReadEnd) : Type 0 where

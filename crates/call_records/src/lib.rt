@@ -43,8 +43,8 @@ pub use operations::{BODY_MAX, CLOSE, HEADER_BYTES, Operation};
 pub use query_calls::{QueryCall, QueryOperation};
 pub use raster_calls::RasterCall;
 pub use reading::{
-    INPUT_MAX, ReadEnd, SESSION_MAGIC, SESSION_VERSION, Step, Unread, read_call, read_record,
-    read_start,
+    INPUT_MAX, Next, ReadEnd, SESSION_MAGIC, SESSION_VERSION, Step, Unread, read_body, read_call,
+    read_next, read_record, read_start,
 };
 pub use record_buf::RecordBuf;
 pub use replies::{Reply, Value, write_list, write_nothing, write_number, write_reply};

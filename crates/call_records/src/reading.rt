@@ -5,8 +5,8 @@ ghost use Rattle.wire_io.specs.Faults.{HasCause};
 ghost use Rattle.wire_io.specs.Sources.{Fills, WhereTold};
 ghost use Rattle.call_records.specs.Operations.{operation_numbered};
 ghost use Rattle.call_records.specs.Records.{session_start};
-ghost use Rattle.call_records.specs.Reading.{StartAnswers, Answers, AnswersUnread, Refuses, ReadCause, step_encoding, unread_encoding, HasFits, IsAllowed, IsStartEnd, IsRecordEnd, HasRoom};
-ghost use Rattle.call_records.specs.Parts.{EndsShort, Judges, TakesHead, EndsClosed};
+ghost use Rattle.call_records.specs.Reading.{StartAnswers, Answers, AnswersUnread, AnswersNext, Refuses, ReadCause, step_encoding, unread_encoding, HasFits, IsAllowed, IsStartEnd, IsRecordEnd, HasRoom};
+ghost use Rattle.call_records.specs.Parts.{EndsShort, Judges, TakesHead, TakesNext, EndsClosed};
 
 use crate::calls::Call;
 use crate::operations::{BODY_MAX, CLOSE, HEADER_BYTES, Operation};
@@ -38,6 +38,15 @@ pub enum Unread<'a> {
         operation: Operation,
         body: &'a [u8],
     },
+    /// The closing record, with nothing after it.
+    End,
+}
+
+/// What the next record of a session is, before a call's body is read.
+#[derive(Clone, Copy)]
+pub enum Next {
+    /// A call: its operation, and its body's length, which the operation allows.
+    Call { operation: Operation, len: usize },
     /// The closing record, with nothing after it.
     End,
 }
@@ -81,6 +90,7 @@ fn fill<S: Source>(input: &mut S, at: u64, piece: &mut [u8]) -> Result<(), ReadE
     ensures filled { OnOk result (S.left input.old ≡ prepend_known piece.new (S.left input.new)) }
     ensures short { IfErr result (EndsShort at (length piece.old) (S.left input.old) (S.left input.new)) }
     ensures cause { ReadCause (S.faults input.old) (S.faults input.new) result }
+    ensures never { IfErr result IsRecordEnd }
 {
     if piece.is_empty() || input.give(piece) {
         return Ok(());
@@ -171,9 +181,10 @@ fn read_head<S: Source>(input: &mut S, at: u64) -> Result<Head, ReadEnd>
     }
 }
 
-/// Reads a record's body into the buffer.
+/// Reads a record's body into the buffer, where `at` bytes of the session stand before it. Truncated and ReadFault come as they do
+/// of `read_record`.
 #[inline(always)]
-fn read_body<'b, S: Source>(
+pub fn read_body<'b, S: Source>(
     input: &mut S,
     at: u64,
     len: usize,
@@ -185,6 +196,7 @@ fn read_body<'b, S: Source>(
     ensures taken { IfOk result (λ body. S.left input.old ≡ prepend_known body.now (S.left input.new)) }
     ensures short { IfErr result (EndsShort at len (S.left input.old) (S.left input.new)) }
     ensures cause { ReadCause (S.faults input.old) (S.faults input.new) result }
+    ensures never { IfErr result IsRecordEnd }
 {
     buf.reach(len);
     let body = &mut buf.bytes_mut()[..len];
@@ -231,6 +243,31 @@ pub fn read_start<S: Source>(input: &mut S) -> Result<(), ReadEnd>
     Ok(())
 }
 
+/// Reads the header of the next record, of which `at` bytes of the session stand before, and leaves a call's body unread. After the
+/// closing record it sees that the input ends there. ReadFault comes only where the source's number of faults rose; every other
+/// refusal comes exactly by the bytes and `at`.
+#[inline(always)]
+pub fn read_next<S: Source>(input: &mut S, at: u64) -> Result<Next, ReadEnd>
+    requires { at ≤ 2 ^ 63 }
+    ensures taken { IfOk result (TakesNext (S.left input.old) (S.left input.new)) }
+    ensures answers { WhereTold (λ old new. AnswersNext at old new result) (S.left input.old) (S.left input.new) }
+    ensures cause { ReadCause (S.faults input.old) (S.faults input.new) result }
+    ensures room { HasRoom at result }
+    ensures never { IfErr result IsRecordEnd }
+{
+    if at > INPUT_MAX - HEADER_BYTES as u64 {
+        return Err(ReadEnd::InputLong(at));
+    }
+    match read_head(input, at) {
+        Err(end) => Err(end),
+        Ok(Head::Closing) => match see_end(input, at + HEADER_BYTES as u64) {
+            Ok(()) => Ok(Next::End),
+            Err(end) => Err(end),
+        },
+        Ok(Head::Record(operation, len)) => Ok(Next::Call { operation, len }),
+    }
+}
+
 /// Reads the next record, of which `at` bytes of the session stand before, and leaves a call's fields unread. Its body
 /// borrows `buf`. After the closing record it sees that the input ends there. ReadFault comes only where the source's number
 /// of faults rose; every other refusal comes exactly by the bytes and `at`.
@@ -249,20 +286,15 @@ pub fn read_record<'b, S: Source>(
     ensures allowed { IfOk result IsAllowed }
     ensures never { IfErr result IsRecordEnd }
 {
-    if at > INPUT_MAX - HEADER_BYTES as u64 {
-        return Err(ReadEnd::InputLong(at));
-    }
-    let after = at + HEADER_BYTES as u64;
-    match read_head(input, at) {
+    match read_next(input, at) {
         Err(end) => Err(end),
-        Ok(Head::Closing) => match see_end(input, after) {
-            Ok(()) => Ok(Unread::End),
-            Err(end) => Err(end),
-        },
-        Ok(Head::Record(operation, len)) => match read_body(input, after, len, buf) {
-            Ok(body) => Ok(Unread::Call { operation, body }),
-            Err(end) => Err(end),
-        },
+        Ok(Next::End) => Ok(Unread::End),
+        Ok(Next::Call { operation, len }) => {
+            match read_body(input, at + HEADER_BYTES as u64, len, buf) {
+                Ok(body) => Ok(Unread::Call { operation, body }),
+                Err(end) => Err(end),
+            }
+        }
     }
 }
 

@@ -1,15 +1,14 @@
 -- The loop over records: its start, one more call, and a call that was cut short.
-use Rattle.std.proofs.Common.{◌≡◌, ℕ, ◌+◌, ◌≤◌, ◌^◌, Option, Some, None, List, [], ◌∷◌, ◌++◌, length, Bor, refl, sym, ap, subst, ◌∙◌, arith, length-append}
+use Rattle.std.proofs.Common.{◌≡◌, ℕ, ◌+◌, ◌≤◌, ◌^◌, Option, Some, None, Result, Ok, Err, List, [], ◌∷◌, ◌++◌, length, refl, sym, ap, subst, ◌∙◌, arith, append_assoc, length-append}
 use Rattle.std.specs.Option.{option_to_list}
 use Rattle.std.specs.Io.KnownBytes.{prepend_known, append_known}
+use Rattle.wire_io.specs.declared.status.Failed.{Failed}
 use Rattle.wire_io.proofs.Known.{taken_twice, sent_twice}
 use Rattle.std.proofs.lemmas.Grind.{flat_map-append}
 use Rattle.call_records.specs.declared.calls.Call.{Call}
 use Rattle.gl_numbers.specs.Bytes.{le32}
 use Rattle.call_records.specs.declared.operations.Operation.{Operation}
-use Rattle.call_records.specs.declared.reading.Unread.TheVariants as Unread
 use Rattle.call_records.specs.Operations.{row_of}
-use Rattle.call_records.specs.Reading.{unread_encoding}
 use Rattle.call_records.proofs.Lengths.{length-encoding}
 use Rattle.call_records.specs.Records.{encoding, operation_of, body_of, Fits}
 use Rattle.command_stream.specs.declared.command.Command.{Command}
@@ -23,7 +22,7 @@ use Rattle.gl_context.specs.Stands.{Kept, Stands}
 use Rattle.gl_context.specs.Sent.{bytes_of}
 use Rattle.session_run.specs.Ends.{Sinks, Ends}
 use Rattle.session_run.specs.Serving.{calls_of, records_of, answered_by, HasRoomAfter, AreTaken, Drives, Progress}
-use Rattle.session_run.specs.Loop.{SoFar, OneAnswered, OneCut, RanUntilCut}
+use Rattle.session_run.specs.Loop.{SoFar, OneAnswered, OneCut, RanUntilCut, Serves}
 use Rattle.session_run.proofs.Answering.{nothing_added}
 use Rattle.session_run.proofs.Driving.{drives-none, drives-then}
 use Rattle.session_run.proofs.Pushing.{page_after-push, shots-push, all_sent-push, records_of-push, answered_by-push, AreTaken-push}
@@ -129,19 +128,49 @@ cut_short old mid new kept at call so_far fits room took cut = record {
   read = taken_twice old.left mid.left new.left (records_of (calls_of so_far.taken)) (encoding call) so_far.read took;
 }
 
--- the record of the one call of an operation and a body
-pub one_record : (operation : Operation) (body : Bor (List ℕ)) (call : Call) → operation_of call ≡ operation → body_of call ≡ body.now
-    → unread_encoding (Unread.Call operation body) ≡ encoding call
-one_record operation body call p q = sym (
+-- a record's header and body are the record of the one call of its operation and its body
+pub one_record : (operation : Operation) (len : ℕ) (body : List ℕ) (call : Call) → operation_of call ≡ operation → body_of call ≡ body → length body ≡ len
+    → (le32 (row_of operation).number ++ le32 len) ++ body ≡ encoding call
+one_record operation len body call p q long =
+    append_assoc (le32 (row_of operation).number) (le32 len) body
+    ∙ (ap (λ n. le32 (row_of operation).number ++ (le32 n ++ body)) (sym long) ∙ sym (
     ap (λ (o : Operation). le32 (row_of o).number ++ (le32 (length (body_of call)) ++ body_of call)) p
     ∙ ap (λ (b : List ℕ). le32 (row_of operation).number ++ (le32 (length b) ++ b)) q
-    )
+    ))
 
 -- how long the record of a call of this body is
-pub one_length : (body : Bor (List ℕ)) (call : Call) → body_of call ≡ body.now → 8 + length body.now ≡ length (encoding call)
-one_length body call e = ap (λ (b : List ℕ). 8 + length b) (sym e) ∙ sym (length-encoding call)
+pub one_length : (len : ℕ) (body : List ℕ) (call : Call) → body_of call ≡ body → length body ≡ len → 8 + len ≡ length (encoding call)
+one_length len body call e long = ap (λ n. 8 + n) (sym long) ∙ (ap (λ (b : List ℕ). 8 + length b) (sym e) ∙ sym (length-encoding call))
 
--- what was read was the record of the one call of its operation and its body
-pub read_one : (old new : Option (List ℕ)) (operation : Operation) (body : Bor (List ℕ)) (call : Call) → operation_of call ≡ operation → body_of call ≡ body.now
-    → old ≡ prepend_known (unread_encoding (Unread.Call operation body)) new → old ≡ prepend_known (encoding call) new
-read_one old new operation body call p q taken = taken ∙ ap (λ l. prepend_known l new) (one_record operation body call p q)
+-- the body of a record was taken, and its call was answered, or a write failed
+pub record TakesOne (operation : Operation) (len : ℕ) (before after : Kept) (old new : Ends) (result : Result (Unit {0}) Failed) : Type 0 where
+  pub body : List ℕ
+  pub long : length body ≡ len
+  pub read : old.left ≡ prepend_known body new.left
+  pub serves : Serves operation body before after old.both new.both result
+
+module _ (old : Ends) (here mid left : Option (List ℕ)) (both after : Sinks) (kept next : Kept) (at len : ℕ) (operation : Operation)
+    (so_far : SoFar old (record { left = here; both = both }) kept at) (room : at + 8 ≤ 2 ^ 62)
+    (header : here ≡ prepend_known (le32 (row_of operation).number ++ le32 len) mid) where
+  -- the record of the call that was taken
+  one_taken : (result : Result (Unit {0}) Failed)
+      → (one : TakesOne operation len kept next (record { left = mid; both = both }) (record { left = left; both = after }) result)
+      → here ≡ prepend_known (encoding one.serves.call) left
+  one_taken result one =
+      taken_twice here mid left (le32 (row_of operation).number ++ le32 len) one.body header one.read
+      ∙ ap (λ l. prepend_known l left) (one_record operation len one.body one.serves.call one.serves.operation_is one.serves.body_is one.long)
+
+  -- one more call was read and answered
+  pub goes_on_one : (done : Unit {0}) → TakesOne operation len kept next (record { left = mid; both = both }) (record { left = left; both = after }) (Ok done)
+      → SoFar old (record { left = left; both = after }) next (at + 8 + len)
+  goes_on_one done one =
+      subst (λ n. SoFar old (record { left = left; both = after }) next n) (omega arith)
+      (goes_on old _ (record { left = left; both = after }) kept next at (8 + len) one.serves.call so_far one.serves.fits room
+      (one_taken (Ok done) one) (one_length len one.body one.serves.call one.serves.body_is one.long) (one.serves.answers _ _ so_far.stands))
+
+  -- one more call was read, and a write failed in it
+  pub cut_short_one : (failed : Failed) → TakesOne operation len kept next (record { left = mid; both = both }) (record { left = left; both = after }) (Err failed)
+      → RanUntilCut old (record { left = left; both = after })
+  cut_short_one failed one =
+      cut_short old _ (record { left = left; both = after }) kept at one.serves.call so_far one.serves.fits room
+      (one_taken (Err failed) one) (one.serves.answers _ _ so_far.stands)

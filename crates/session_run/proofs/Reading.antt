@@ -9,6 +9,11 @@ use Rattle.call_records.specs.declared.reading.Unread.{Unread}
 use Rattle.call_records.specs.declared.reading.Unread.TheVariants.{End}
 use Rattle.call_records.specs.declared.reading.ReadEnd.{ReadEnd}
 use Rattle.call_records.specs.declared.reading.ReadEnd.TheVariants.{Truncated, Magic, Version, UnknownOp, BodyLong, BodyShape, AfterEnd, InputLong, ReadFault}
+use Rattle.gl_numbers.specs.Bytes.{le32}
+use Rattle.call_records.specs.declared.operations.Operation.{Operation}
+use Rattle.call_records.specs.Operations.{row_of}
+use Rattle.call_records.specs.Parts.{EndsShort, IsHeader}
+use Rattle.call_records.proofs.Refusals.{body_refused}
 use Rattle.call_records.specs.Records.{session_start, Fits}
 use Rattle.call_records.specs.Reading.{StartAnswers, AnswersUnread, Refuses, HasRoom}
 use Rattle.gl_context.specs.PageRun.{Taken}
@@ -79,6 +84,25 @@ ran_refused old mid left kept at end so_far room answers = record {
         room = subst (λ (n : ℕ). HasRoom {T = Step} n (Err end)) so_far.counted (same_room at end room);
       });
 }
+
+-- the room before a refusal of a record whose header was read
+pub room_before : (at : ℕ) (end : ReadEnd) → at + 8 ≤ 2 ^ 62 → HasRoom {T = Unread} at (Err end)
+room_before at (Truncated n) room = room
+room_before at (Magic n) room = room
+room_before at (Version n) room = room
+room_before at (UnknownOp n) room = room
+room_before at (BodyLong n) room = room
+room_before at (BodyShape n) room = room
+room_before at (AfterEnd n) room = room
+room_before at (InputLong n) room = tt
+room_before at ReadFault room = room
+
+-- the body of the record after the calls so far was cut short
+pub ran_cut : (old here : Ends) (mid left : Option (List ℕ)) (kept : Kept) (at len : ℕ) (operation : Operation) (end : ReadEnd) → SoFar old here kept at
+    → at + 8 ≤ 2 ^ 62 → (here.left ≡ prepend_known (le32 (row_of operation).number ++ le32 len) mid) × IsHeader (row_of operation).number len operation
+    → EndsShort (at + 8) len mid left end → RanTo (λ taken. ReadRefused taken end) old (record { left = left; both = here.both })
+ran_cut old here mid left kept at len operation end so_far room header short =
+    ran_refused old here left kept at end so_far (room_before at end room) (body_refused at (at + 8) len operation here.left mid left end refl header short)
 
 -- the calls that were taken have records
 calls-fit : (taken : List Taken) → All (λ t. Fits t.call) taken → All Fits (calls_of taken)

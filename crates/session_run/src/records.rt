@@ -11,7 +11,7 @@ ghost use Rattle.session_run.specs.Loop.{AnswersOne, Serves, RunsRecords, IsReco
 ghost use Rattle.session_run.specs.Causes.{AnswerCause, RunCause};
 
 use call_records::{
-    HEADER_BYTES, Operation, ReadEnd, RecordBuf, Subject, Unread, call_of, read_record,
+    HEADER_BYTES, Next, Operation, ReadEnd, RecordBuf, Subject, call_of, read_body, read_next,
 };
 use gl_context::{Acts, Context};
 use std::sync::ledger::Ledger;
@@ -115,13 +115,26 @@ pub fn run_records<S: Source, O: Sink, T: Sink, L: Ledger>(
 {
     let mut at: u64 = 8;
     loop {
-        match read_record(input, at, buf) {
-            Ok(Unread::End) => return Ok(()),
-            Ok(Unread::Call { operation, body }) => {
-                at += (HEADER_BYTES + body.len()) as u64;
-                let Ok(()) = serve_any(context, operation, body, out, stream, steps) else {
+        match read_next(input, at) {
+            Ok(Next::End) => return Ok(()),
+            Ok(Next::Call { operation, len }) => {
+                let after = at + HEADER_BYTES as u64;
+                // a body that waits in a buffer of the source's own is lent from there
+                let served = match input.peek(len) {
+                    Some(body) => {
+                        let served = serve_any(context, operation, body, out, stream, steps);
+                        input.skip(len);
+                        served
+                    }
+                    None => match read_body(input, after, len, buf) {
+                        Ok(body) => serve_any(context, operation, body, out, stream, steps),
+                        Err(end) => return Err(RunEnd::Read(end)),
+                    },
+                };
+                let Ok(()) = served else {
                     return Err(RunEnd::Write);
                 };
+                at = after + len as u64;
             }
             Err(end) => return Err(RunEnd::Read(end)),
         }

@@ -1,6 +1,6 @@
 //! Runs whose ends fail, and the order in which they are used.
 
-ghost use Rattle.std.specs.Prelude.{◌-◌, ◌^◌, None};
+ghost use Rattle.std.specs.Prelude.{◌-◌, ◌^◌, None, []};
 
 use crate::filling::{ends, filling_session};
 use crate::over_memory::words_of;
@@ -86,6 +86,14 @@ impl Source for LateSource<'_> {
     ghost left = { λ _. None };
 
     ghost faults = { λ _. 2 ^ 64 - 1 };
+
+    ghost ahead = { λ _. [] };
+
+    fn peek(&self, _len: usize) -> Option<&[u8]> {
+        None
+    }
+
+    fn skip(&mut self, _len: usize) {}
 
     fn read(&mut self, _into: &mut [u8]) -> Result<usize, Failed> {
         if self.first.get().is_none() {

@@ -1,4 +1,4 @@
-ghost use Rattle.std.specs.Prelude.{◌≡◌, ◌+◌, ◌-◌, ◌^◌, ◌<◌, ◌≤◌, [], ◌++◌, min, length, take, drop, true, false, OnOk, OnErr};
+ghost use Rattle.std.specs.Prelude.{IfSome, ◌≡◌, ◌+◌, ◌-◌, ◌^◌, ◌<◌, ◌≤◌, [], ◌++◌, min, length, take, drop, true, false, OnOk, OnErr};
 ghost use Rattle.std.specs.Io.KnownBytes.{IsAtEnd};
 ghost use Rattle.wire_io.specs.Faults.{CountsErrors, HasCause};
 ghost use Rattle.wire_io.specs.Buffers.{BufferState, empty_buffer, Gives, GivesWaiting, KeepsShort, Passes, ReadsThrough, WritesThrough};
@@ -152,6 +152,27 @@ impl Buffer {
         self.start = 0;
         self.end = 0;
         Ok(())
+    }
+
+    /// The first bytes that wait, where there are so many.
+    #[inline(always)]
+    pub fn peek(&self, len: usize) -> Option<&[u8]>
+        ensures { IfSome result (λ piece. (len ≤ length self.now.waiting) × (piece.now ≡ take len self.now.waiting)) }
+    {
+        if len > self.end - self.start {
+            return None;
+        }
+        Some(&self.waiting()[..len])
+    }
+
+    /// Takes the first bytes that wait.
+    #[inline(always)]
+    pub fn skip(&mut self, len: usize)
+        requires { len ≤ length self.old.waiting }
+        ensures left { self.new.waiting ≡ drop len self.old.waiting }
+        ensures faults { self.new.faults ≡ self.old.faults }
+    {
+        self.start += len;
     }
 
     /// Fills the piece where so many bytes wait.

@@ -52,6 +52,14 @@ impl Source for MemSource {
 
     ghost faults = { λ s. s.faults };
 
+    ghost ahead = { λ _. [] };
+
+    fn peek(&self, _len: usize) -> Option<&[u8]> {
+        None
+    }
+
+    fn skip(&mut self, _len: usize) {}
+
     fn read(&mut self, into: &mut [u8]) -> Result<usize, Failed>
         ensures bytes { Reads (Some self.old.left) (Some self.new.left) result into.new }
         ensures cause { HasCause self.old.faults self.new.faults result }

@@ -1,4 +1,4 @@
-ghost use Rattle.std.specs.Prelude.{◌≡◌, ℕ, List, Option, true, false};
+ghost use Rattle.std.specs.Prelude.{◌≡◌, ◌≤◌, ℕ, List, Option, length, take, IfSome, true, false};
 ghost use Rattle.std.specs.Io.KnownBytes.{prepend_known};
 ghost use Rattle.wire_io.specs.Faults.{HasCause};
 ghost use Rattle.wire_io.specs.Sources.{Reads, Fills};
@@ -12,6 +12,9 @@ pub trait Source {
 
     /// The number of faults so far; it never falls, and stays at 2^64 - 1.
     ghost faults: { Self → ℕ };
+
+    /// The bytes that wait in a buffer of the source's own.
+    ghost ahead: { Self → List ℕ };
 
     /// Takes at most as many bytes as `into` has, and returns how many; 0 for a piece that isn't empty is
     /// the end. Failed comes only where the number of faults rose, and then nothing was taken.
@@ -29,6 +32,16 @@ pub trait Source {
     {
         false
     }
+
+    /// Lends the next bytes where so many wait in a buffer of the source's own, as they do for most short pieces. Nothing is taken.
+    fn peek(&self, len: usize) -> Option<&[u8]>
+        ensures { IfSome result (λ piece. (len ≤ length (ahead self.now)) × (piece.now ≡ take len (ahead self.now))) };
+
+    /// Takes bytes that wait in a buffer of the source's own.
+    fn skip(&mut self, len: usize)
+        requires { len ≤ length (ahead self.old) }
+        ensures taken { left self.old ≡ prepend_known (take len (ahead self.old)) (left self.new) }
+        ensures faults { faults self.new ≡ faults self.old };
 }
 
 /// Reads until `into` is full or the end comes, and returns how many bytes were taken.

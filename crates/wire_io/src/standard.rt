@@ -45,6 +45,18 @@ impl<R: Read + Drop> Source for StdSource<R> {
 
     ghost faults = { λ s. s.faults };
 
+    ghost ahead = { λ s. s.waiting };
+
+    #[inline(always)]
+    fn peek(&self, len: usize) -> Option<&[u8]> {
+        self.ahead.peek(len)
+    }
+
+    #[inline(always)]
+    fn skip(&mut self, len: usize) {
+        self.ahead.skip(len);
+    }
+
     #[inline]
     fn give(&mut self, into: &mut [u8]) -> bool {
         self.ahead.give_whole(into)
