@@ -1,0 +1,14 @@
+pub mod SameTypes
+pub mod Flattening
+pub mod Items
+pub mod Locations
+pub mod TypeWords
+pub mod Linked
+pub mod Rules
+pub mod Answers
+pub mod Kept
+pub mod Shapes
+pub mod Places
+pub mod Counted
+pub mod Standing
+pub mod Told
